@@ -1,0 +1,6 @@
+pub mod Bytes
+pub mod Parts
+pub mod Digits
+pub mod Steps
+pub mod Lengths
+pub mod Laws

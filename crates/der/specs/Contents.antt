@@ -1,0 +1,69 @@
+-- The rules of contents: each as a test that computes, and as what the test means.
+use mathlib.Core.Path.{_≡_}
+use mathlib.Core.Bool.{Bool, true, false, cond, not, _&&_, _||_}
+use mathlib.Core.List.{List, [], _∷_}
+use Prim.Native.Nat.{ℕ, _-_, _<_, _≤_}
+use lib.Dec.{ltb, leb, eqb}
+use lib.ListN.{length, getD}
+use Rattle.std.specs.declared.option.Option.{Option}
+use Rattle.std.specs.declared.option.Option.the-variants.{Some, None}
+use Rattle.der.specs.Numbers.{valueOf}
+
+-- INTEGER: not empty, and in no more bytes than the number needs: the first nine bits are not all equal
+pub record Integer (content : List ℕ) : Type 0 where
+  pub some : 0 < length content
+  pub notZeros : 1 < length content → getD content 0 0 ≡ 0 → 128 ≤ getD content 1 0
+  pub notOnes : 1 < length content → getD content 0 0 ≡ 255 → getD content 1 0 < 128
+
+abbrev pub isInteger : List ℕ → Bool
+isInteger content =
+  ltb 0 (length content) &&
+  (leb (length content) 1 ||
+  not ((eqb (getD content 0 0) 0 && ltb (getD content 1 0) 128) || (eqb (getD content 0 0) 255 && leb 128 (getD content 1 0))))
+
+-- serial: a positive INTEGER of at most so many bytes
+abbrev pub mostSerialBytes : ℕ
+mostSerialBytes = 20
+
+pub record Serial (content : List ℕ) : Type 0 where
+  pub integer : Integer content
+  pub few : length content ≤ mostSerialBytes
+  pub notNegative : getD content 0 0 < 128
+  pub notZero : 0 < valueOf content
+
+abbrev pub isSerial : List ℕ → Bool
+isSerial content =
+  isInteger content &&
+  (leb (length content) mostSerialBytes &&
+  (ltb (getD content 0 0) 128 &&
+  (ltb 1 (length content) || ltb 0 (getD content 0 0))))
+
+-- BOOLEAN: one byte, FF for true and 00 for false
+abbrev pub booleanBytes : Bool → List ℕ
+booleanBytes true = 255 ∷ []
+booleanBytes false = 0 ∷ []
+
+abbrev pub Boolean : List ℕ → Option Bool → Type 0
+Boolean content (Some b) = content ≡ booleanBytes b
+Boolean content None = (b : Bool) → content ≡ booleanBytes b → ⊥
+
+abbrev pub booleanOf : List ℕ → Option Bool
+booleanOf content =
+  cond (eqb (length content) 1)
+  (cond (eqb (getD content 0 0) 255) (Some true) (cond (eqb (getD content 0 0) 0) (Some false) None))
+  None
+
+-- OBJECT IDENTIFIER: numbers of seven bits to a byte, 80 added in all bytes of a number but its last. Not empty, the
+-- last byte ends a number, and no number begins with 80, which would be a needless byte
+pub record Identifier (content : List ℕ) : Type 0 where
+  pub some : 0 < length content
+  pub ended : getD content (length content - 1) 0 < 128
+  pub shortest : (k : ℕ) → k < length content → getD content k 0 ≡ 128 → (0 < k) × (128 ≤ getD content (k - 1) 0)
+
+-- the same behind a byte that was read
+abbrev pub identifierBehind : ℕ → List ℕ → Bool
+identifierBehind last [] = ltb last 128
+identifierBehind last (byte ∷ bytes) = cond (eqb byte 128 && ltb last 128) false (identifierBehind byte bytes)
+
+abbrev pub isIdentifier : List ℕ → Bool
+isIdentifier content = ltb 0 (length content) && identifierBehind 0 content
