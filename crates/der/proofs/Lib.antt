@@ -4,3 +4,4 @@ pub mod Digits
 pub mod Steps
 pub mod Lengths
 pub mod Laws
+pub mod Rules

@@ -32,13 +32,18 @@ abbrev pub allDigits : List ℕ → Bool
 allDigits [] = true
 allDigits (x ∷ xs) = isBetween 48 x 57 && allDigits xs
 
+-- fourteen digits and Z
+abbrev pub isTimeShaped : List ℕ → Bool
+isTimeShaped content = eqb (length content) 15 && (allDigits (take 14 content) && eqb (getD content 14 0) 90)
+
+-- month and day
+abbrev pub isInCalendar : List ℕ → Bool
+isInCalendar content = isBetween 1 (twoDigits content 4) 12 && isBetween 1 (twoDigits content 6) 31
+
+-- hour, minute and second
+abbrev pub isOnClock : List ℕ → Bool
+isOnClock content =
+  isBetween 0 (twoDigits content 8) 23 && (isBetween 0 (twoDigits content 10) 59 && isBetween 0 (twoDigits content 12) 59)
+
 abbrev pub isTime : List ℕ → Bool
-isTime content =
-  eqb (length content) 15 &&
-  (allDigits (take 14 content) &&
-  (eqb (getD content 14 0) 90 &&
-  (isBetween 1 (twoDigits content 4) 12 &&
-  (isBetween 1 (twoDigits content 6) 31 &&
-  (isBetween 0 (twoDigits content 8) 23 &&
-  (isBetween 0 (twoDigits content 10) 59 &&
-  isBetween 0 (twoDigits content 12) 59))))))
+isTime content = isTimeShaped content && (isInCalendar content && isOnClock content)
