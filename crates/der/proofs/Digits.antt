@@ -29,9 +29,9 @@ split-large times top rest h = rw (le-ltb top 256 h) refl
 pub split-value : (times top : ℕ) (rest : List ℕ) → valueOf (splitUp times top rest) ≡ continued top rest
 split-value zero top rest = value-cons top rest
 split-value (suc times) top rest = elim (cases-lt top 256) [
-    inl h ↦ ap (λ (xs : List ℕ). valueOf xs) (split-small (suc times) top rest h) ∙ value-cons top rest
+  | inl h ↦ ap (λ (xs : List ℕ). valueOf xs) (split-small (suc times) top rest h) ∙ value-cons top rest
   | inr h ↦ ap (λ (xs : List ℕ). valueOf xs) (split-large times top rest h) ∙ (split-value times (top / 256) (top % 256 ∷ rest) ∙ ap (λ (v : ℕ). continued v rest) (div-add-mod' top 256))
-  ]
+]
 
 pub bytes-value : (n : ℕ) → valueOf (bytesOf n) ≡ n
 bytes-value n = split-value (mostLengthBytes - 1) n []
@@ -40,27 +40,27 @@ bytes-value n = split-value (mostLengthBytes - 1) n []
 pub split-read : (times top : ℕ) (xs rest : List ℕ) → Bytes xs → 1 ≤ top → splitUp (times + length xs) (continued top xs) rest ≡ splitUp times top (xs ++ rest)
 split-read times top [] rest b h = ap (λ (n : ℕ). splitUp n top rest) (add-zero times)
 split-read times top (x ∷ xs) rest b h =
-  let small : x < 256 = b 0 in
-  let count : times + suc (length xs) ≡ suc times + length xs = omega arith in
-  let high : (top * 256 + x) / 256 ≡ top = omega arith in
-  let low : (top * 256 + x) % 256 ≡ x = omega arith in
-  ap (λ (n : ℕ). splitUp n (continued (top * 256 + x) xs) rest) count
-  ∙ (split-read (suc times) (top * 256 + x) xs rest (λ k. b (suc k)) (omega arith)
-  ∙ (split-large times (top * 256 + x) (xs ++ rest) (omega arith)
-  ∙ (ap (λ (n : ℕ). splitUp times n ((top * 256 + x) % 256 ∷ (xs ++ rest))) high
-  ∙ ap (λ (n : ℕ). splitUp times top (n ∷ (xs ++ rest))) low)))
+    let small : x < 256 = b 0 in
+    let count : times + suc (length xs) ≡ suc times + length xs = omega arith in
+    let high : (top * 256 + x) / 256 ≡ top = omega arith in
+    let low : (top * 256 + x) % 256 ≡ x = omega arith in
+    ap (λ (n : ℕ). splitUp n (continued (top * 256 + x) xs) rest) count
+    ∙ (split-read (suc times) (top * 256 + x) xs rest (λ k. b (suc k)) (omega arith)
+    ∙ (split-large times (top * 256 + x) (xs ++ rest) (omega arith)
+    ∙ (ap (λ (n : ℕ). splitUp times n ((top * 256 + x) % 256 ∷ (xs ++ rest))) high
+    ∙ ap (λ (n : ℕ). splitUp times top (n ∷ (xs ++ rest))) low)))
 
 -- bytes of which the first is not 0 are the bytes of what they stand for
 pub bytes-read : (x : ℕ) (xs : List ℕ) → Bytes (x ∷ xs) → 1 ≤ x → length xs < mostLengthBytes → bytesOf (valueOf (x ∷ xs)) ≡ x ∷ xs
 bytes-read x xs b h few =
-  let small : x < 256 = b 0 in
-  let spare : ℕ = mostLengthBytes - 1 - length xs in
-  let count : mostLengthBytes - 1 ≡ spare + length xs = omega arith in
-  ap (λ (v : ℕ). bytesOf v) (value-cons x xs)
-  ∙ (ap (λ (n : ℕ). splitUp n (continued x xs) []) count
-  ∙ (split-read spare x xs [] (λ k. b (suc k)) h
-  ∙ (ap (λ (ys : List ℕ). splitUp spare x ys) (append-nil xs)
-  ∙ split-small spare x xs small)))
+    let small : x < 256 = b 0 in
+    let spare : ℕ = mostLengthBytes - 1 - length xs in
+    let count : mostLengthBytes - 1 ≡ spare + length xs = omega arith in
+    ap (λ (v : ℕ). bytesOf v) (value-cons x xs)
+    ∙ (ap (λ (n : ℕ). splitUp n (continued x xs) []) count
+    ∙ (split-read spare x xs [] (λ k. b (suc k)) h
+    ∙ (ap (λ (ys : List ℕ). splitUp spare x ys) (append-nil xs)
+    ∙ split-small spare x xs small)))
 
 -- the bytes of a number above 0: the first is not 0, and there are not too many
 pub record First (xs : List ℕ) (most : ℕ) : Type 0 where
@@ -73,12 +73,12 @@ pub record First (xs : List ℕ) (most : ℕ) : Type 0 where
 pub split-first : (times top : ℕ) (rest : List ℕ) → 1 ≤ top → First (splitUp times top rest) (times + length rest)
 split-first zero top rest h = record { head = top; tail = rest; is = refl; some = h; few = omega arith }
 split-first (suc times) top rest h = elim (cases-lt top 256) [
-    inl k ↦ record { head = top; tail = rest; is = split-small (suc times) top rest k; some = h; few = omega arith }
+  | inl k ↦ record { head = top; tail = rest; is = split-small (suc times) top rest k; some = h; few = omega arith }
   | inr k ↦
-    let p = split-first times (top / 256) (top % 256 ∷ rest) (omega arith) in
-    let n : times + suc (length rest) ≡ suc times + length rest = omega arith in
-    record { head = p .head; tail = p .tail; is = split-large times top rest k ∙ p .is; some = p .some; few = omega (arith, p .few) }
-  ]
+      let p = split-first times (top / 256) (top % 256 ∷ rest) (omega arith) in
+      let n : times + suc (length rest) ≡ suc times + length rest = omega arith in
+      record { head = p .head; tail = p .tail; is = split-large times top rest k ∙ p .is; some = p .some; few = omega (arith, p .few) }
+]
 
 pub bytes-first : (n : ℕ) → 1 ≤ n → First (bytesOf n) (mostLengthBytes - 1)
 bytes-first n h = let p = split-first (mostLengthBytes - 1) n [] h in record { head = p .head; tail = p .tail; is = p .is; some = p .some; few = omega (arith, p .few) }

@@ -20,28 +20,29 @@ part-all xs from = take-rest xs from
 
 pub part-more : (xs : List ℕ) (from to : ℕ) → from < to → to ≤ length xs → part xs from to ≡ getD xs from 0 ∷ part xs (from + 1) to
 part-more xs from to h l =
-  let e : drop from xs ≡ getD xs from 0 ∷ drop (from + 1) xs = drop-more xs from 0 (omega arith) in
-  let n : to - from ≡ suc (to - (from + 1)) = omega arith in
-  rw (e, n) refl
+    let e : drop from xs ≡ getD xs from 0 ∷ drop (from + 1) xs = drop-more xs from 0 (omega arith) in
+    let n : to - from ≡ suc (to - (from + 1)) = omega arith in
+    rw (e, n) refl
 
 pub part-split : (xs : List ℕ) (from mid to : ℕ) → from ≤ mid → mid ≤ to → to ≤ length xs → part xs from to ≡ part xs from mid ++ part xs mid to
 part-split xs from mid to h k l =
-  let n : to - from ≡ (mid - from) + (to - mid) = omega arith in
-  let m : from + (mid - from) ≡ mid = omega arith in
-  let behind : drop (mid - from) (drop from xs) ≡ drop mid xs = drop-drop (mid - from) from xs ∙ ap (λ (x : ℕ). drop x xs) m in
-  let whole : take (to - from) (drop from xs) ≡ take (mid - from) (take (to - from) (drop from xs)) ++ drop (mid - from) (take (to - from) (drop from xs)) = sym (take-append-drop (mid - from) (take (to - from) (drop from xs))) in
-  let front : take (mid - from) (take (to - from) (drop from xs)) ≡ take (mid - from) (drop from xs) = take-take (mid - from) (to - from) (drop from xs) (omega arith) in
-  let back : drop (mid - from) (take (to - from) (drop from xs)) ≡ take (to - mid) (drop mid xs) = ap (λ (k : ℕ). drop (mid - from) (take k (drop from xs))) n ∙ (drop-take (mid - from) (to - mid) (drop from xs) ∙ ap (take (to - mid)) behind) in
-  cc
+    let n : to - from ≡ (mid - from) + (to - mid) = omega arith in
+    let m : from + (mid - from) ≡ mid = omega arith in
+    let behind : drop (mid - from) (drop from xs) ≡ drop mid xs = drop-drop (mid - from) from xs ∙ ap (λ (x : ℕ). drop x xs) m in
+    let whole : take (to - from) (drop from xs) ≡ take (mid - from) (take (to - from) (drop from xs)) ++ drop (mid - from) (take (to - from) (drop from xs)) = sym (take-append-drop (mid - from) (take (to - from) (drop from xs))) in
+    let front : take (mid - from) (take (to - from) (drop from xs)) ≡ take (mid - from) (drop from xs) = take-take (mid - from) (to - from) (drop from xs) (omega arith) in
+    let back : drop (mid - from) (take (to - from) (drop from xs)) ≡ take (to - mid) (drop mid xs) = ap (λ (k : ℕ). drop (mid - from) (take k (drop from xs))) n ∙ (drop-take (mid - from) (to - mid) (drop from xs) ∙ ap (take (to - mid)) behind) in
+    cc
 
 pub bytes-part : (xs : List ℕ) (from to : ℕ) → Bytes xs → Bytes (part xs from to)
 bytes-part xs from to b k = elim (cases-lt k (to - from)) [
-    inl h ↦ omega (arith, getD-take (to - from) (drop from xs) k 0 h, getD-drop from xs k 0, b (from + k))
+  | inl h ↦ omega (arith, getD-take (to - from) (drop from xs) k 0 h, getD-drop from xs k 0, b (from + k))
   | inr h ↦ omega (arith, getD-past (part xs from to) k 0 (simp length-take (omega arith)))
-  ]
+]
 
 -- two lists that are joined alike, with fronts of one length, are alike in front and behind
 pub same-halves : (a b x y : List ℕ) → length a ≡ length b → a ++ x ≡ b ++ y → (a ≡ b) × (x ≡ y)
-same-halves a b x y n e =
-  (sym (take-at a x _ refl) ∙ (ap (take (length a)) e ∙ take-at b y (length a) (sym n)),
-   sym (drop-at a x _ refl) ∙ (ap (drop (length a)) e ∙ drop-at b y (length a) (sym n)))
+same-halves a b x y n e = (
+  sym (take-at a x _ refl) ∙ (ap (take (length a)) e ∙ take-at b y (length a) (sym n)),
+  sym (drop-at a x _ refl) ∙ (ap (drop (length a)) e ∙ drop-at b y (length a) (sym n)),
+)

@@ -21,4 +21,4 @@ tag-then at end tag q h n = grind (arith, tells)
 pub element-by-length : (file : List ℕ) (at end e : ℕ) (q : Result (ℕ × ℕ) Refusal) → e ≡ endWithin file end → at < e → (getD file at 0 % 32 ≡ 31 → ⊥) → q ≡ lengthAt file at e → withTag (getD file at 0) q ≡ elementAt file at end
 unfolding elementAt
 element-by-length file at end e q is h n g =
-  ap (withTag (getD file at 0)) g ∙ (sym (tag-then at e (getD file at 0) (withTag (getD file at 0) (lengthAt file at e)) h n) ∙ ap (anyAt file at) is)
+    ap (withTag (getD file at 0)) g ∙ (sym (tag-then at e (getD file at 0) (withTag (getD file at 0) (lengthAt file at e)) h n) ∙ ap (anyAt file at) is)

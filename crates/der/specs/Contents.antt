@@ -17,9 +17,9 @@ pub record Integer (content : List ℕ) : Type 0 where
 
 abbrev pub isInteger : List ℕ → Bool
 isInteger content =
-  ltb 0 (length content) &&
-  (leb (length content) 1 ||
-  not ((eqb (getD content 0 0) 0 && ltb (getD content 1 0) 128) || (eqb (getD content 0 0) 255 && leb 128 (getD content 1 0))))
+    ltb 0 (length content) &&
+    (leb (length content) 1 ||
+    not ((eqb (getD content 0 0) 0 && ltb (getD content 1 0) 128) || (eqb (getD content 0 0) 255 && leb 128 (getD content 1 0))))
 
 -- serial: a positive INTEGER of at most so many bytes
 abbrev pub mostSerialBytes : ℕ
@@ -33,10 +33,10 @@ pub record Serial (content : List ℕ) : Type 0 where
 
 abbrev pub isSerial : List ℕ → Bool
 isSerial content =
-  isInteger content &&
-  (leb (length content) mostSerialBytes &&
-  (ltb (getD content 0 0) 128 &&
-  (ltb 1 (length content) || ltb 0 (getD content 0 0))))
+    isInteger content &&
+    (leb (length content) mostSerialBytes &&
+    (ltb (getD content 0 0) 128 &&
+    (ltb 1 (length content) || ltb 0 (getD content 0 0))))
 
 -- BOOLEAN: one byte, FF for true and 00 for false
 abbrev pub booleanBytes : Bool → List ℕ
@@ -49,9 +49,9 @@ Boolean content None = (b : Bool) → content ≡ booleanBytes b → ⊥
 
 abbrev pub booleanOf : List ℕ → Option Bool
 booleanOf content =
-  cond (eqb (length content) 1)
-  (cond (eqb (getD content 0 0) 255) (Some true) (cond (eqb (getD content 0 0) 0) (Some false) None))
-  None
+    cond (eqb (length content) 1)
+    (cond (eqb (getD content 0 0) 255) (Some true) (cond (eqb (getD content 0 0) 0) (Some false) None))
+    None
 
 -- OBJECT IDENTIFIER: numbers of seven bits to a byte, 80 added in all bytes of a number but its last. Not empty, the
 -- last byte ends a number, and no number begins with 80, which would be a needless byte

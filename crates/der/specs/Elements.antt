@@ -23,17 +23,17 @@ fitting at end from size = cond (ltb (end - from) size) (refused CutShort at) (O
 -- a length of `count` bytes behind its first one, in no longer form than it needs
 abbrev pub longLengthAt : List ℕ → ℕ → ℕ → ℕ → Result (ℕ × ℕ) Refusal
 longLengthAt file at end count =
-  cond (ltb (end - (at + 2)) count) (refused CutShort at)
-  (cond (eqb (getD file (at + 2) 0) 0 || ltb (valueOf (part file (at + 2) (at + 2 + count))) 128) (refused LengthForm at)
-  (fitting at end (at + 2 + count) (valueOf (part file (at + 2) (at + 2 + count)))))
+    cond (ltb (end - (at + 2)) count) (refused CutShort at)
+    (cond (eqb (getD file (at + 2) 0) 0 || ltb (valueOf (part file (at + 2) (at + 2 + count))) 128) (refused LengthForm at)
+    (fitting at end (at + 2 + count) (valueOf (part file (at + 2) (at + 2 + count)))))
 
 -- the content of the element at `at`, by the length behind its tag
 abbrev pub lengthAt : List ℕ → ℕ → ℕ → Result (ℕ × ℕ) Refusal
 lengthAt file at end =
-  cond (leb end (at + 1)) (refused CutShort at)
-  (cond (ltb (getD file (at + 1) 0) 128) (fitting at end (at + 2) (getD file (at + 1) 0))
-  (cond (eqb (getD file (at + 1) 0) 128 || ltb (128 + mostLengthBytes) (getD file (at + 1) 0)) (refused LengthForm at)
-  (longLengthAt file at end (getD file (at + 1) 0 - 128))))
+    cond (leb end (at + 1)) (refused CutShort at)
+    (cond (ltb (getD file (at + 1) 0) 128) (fitting at end (at + 2) (getD file (at + 1) 0))
+    (cond (eqb (getD file (at + 1) 0) 128 || ltb (128 + mostLengthBytes) (getD file (at + 1) 0)) (refused LengthForm at)
+    (longLengthAt file at end (getD file (at + 1) 0 - 128))))
 
 abbrev pub withTag : ℕ → Result (ℕ × ℕ) Refusal → Result (ℕ × ℕ × ℕ) Refusal
 withTag tag (Ok p) = Ok (tag, p .0, p .1)
@@ -47,9 +47,9 @@ endWithin file end = min end (length file)
 -- what follows it
 abbrev pub anyAt : List ℕ → ℕ → ℕ → Result (ℕ × ℕ × ℕ) Refusal
 anyAt file at end =
-  cond (leb end at) (refused WrongTag at)
-  (cond (eqb (getD file at 0 % 32) 31) (refused WrongTag at)
-  (withTag (getD file at 0) (lengthAt file at end)))
+    cond (leb end at) (refused WrongTag at)
+    (cond (eqb (getD file at 0 % 32) 31) (refused WrongTag at)
+    (withTag (getD file at 0) (lengthAt file at end)))
 
 unfoldable pub elementAt : List ℕ → ℕ → ℕ → Result (ℕ × ℕ × ℕ) Refusal
 elementAt file at end = anyAt file at (endWithin file end)
@@ -57,8 +57,8 @@ elementAt file at end = anyAt file at (endWithin file end)
 -- the element at `at` whose tag must be `wanted`: where its content begins and what follows it
 abbrev pub wantedAt : List ℕ → ℕ → ℕ → ℕ → Result (ℕ × ℕ) Refusal
 wantedAt file at end wanted =
-  cond (leb end at) (refused WrongTag at)
-  (cond (eqb (getD file at 0) wanted) (lengthAt file at end) (refused WrongTag at))
+    cond (leb end at) (refused WrongTag at)
+    (cond (eqb (getD file at 0) wanted) (lengthAt file at end) (refused WrongTag at))
 
 unfoldable pub taggedAt : List ℕ → ℕ → ℕ → ℕ → Result (ℕ × ℕ) Refusal
 taggedAt file at end wanted = wantedAt file at (endWithin file end) wanted

@@ -43,7 +43,7 @@ isInCalendar content = isBetween 1 (twoDigits content 4) 12 && isBetween 1 (twoD
 -- hour, minute and second
 abbrev pub isOnClock : List ℕ → Bool
 isOnClock content =
-  isBetween 0 (twoDigits content 8) 23 && (isBetween 0 (twoDigits content 10) 59 && isBetween 0 (twoDigits content 12) 59)
+    isBetween 0 (twoDigits content 8) 23 && (isBetween 0 (twoDigits content 10) 59 && isBetween 0 (twoDigits content 12) 59)
 
 abbrev pub isTime : List ℕ → Bool
 isTime content = isTimeShaped content && (isInCalendar content && isOnClock content)

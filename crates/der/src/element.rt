@@ -29,7 +29,10 @@ fn within(at: usize, end: usize, from: usize, size: usize) -> Result<(usize, usi
     ensures { λ r. ⌜ r ≡ fitting at end from size ⌝ }
 {
     if end - from < size {
-        return Err(Refusal { reason: Reason::CutShort, place: at });
+        return Err(Refusal {
+            reason: Reason::CutShort,
+            place: at,
+        });
     }
     Ok((from, from + size))
 }
@@ -40,8 +43,16 @@ fn length_at(file: &[u8], at: usize, end: usize) -> Result<(usize, usize), Refus
     ensures is { λ r. ⌜ r ≡ lengthAt (now (file .entry)) at end ⌝ }
     ensures placed { λ r. ⌜ ContentPlaced (now (file .entry)) at end r ⌝ }
 {
+    let cut_short = Refusal {
+        reason: Reason::CutShort,
+        place: at,
+    };
+    let bad_form = Refusal {
+        reason: Reason::LengthForm,
+        place: at,
+    };
     if at + 1 >= end {
-        return Err(Refusal { reason: Reason::CutShort, place: at });
+        return Err(cut_short);
     }
     let first = file[at + 1] as usize;
     let from = at + 2;
@@ -49,15 +60,15 @@ fn length_at(file: &[u8], at: usize, end: usize) -> Result<(usize, usize), Refus
         return within(at, end, from, first);
     }
     if first == 0x80 || first > 0x80 + MOST_LENGTH_BYTES {
-        return Err(Refusal { reason: Reason::LengthForm, place: at });
+        return Err(bad_form);
     }
     let count = first - 0x80;
     if end - from < count {
-        return Err(Refusal { reason: Reason::CutShort, place: at });
+        return Err(cut_short);
     }
     let size = number_of(&file[from..from + count]);
     if file[from] == 0 || size < 0x80 {
-        return Err(Refusal { reason: Reason::LengthForm, place: at });
+        return Err(bad_form);
     }
     within(at, end, from + count, size)
 }
@@ -70,7 +81,10 @@ pub fn element_at(file: &[u8], at: usize, end: usize) -> Result<(u8, usize, usiz
 {
     let end = end.min(file.len());
     if at >= end || file[at] % 32 == 31 {
-        return Err(Refusal { reason: Reason::WrongTag, place: at });
+        return Err(Refusal {
+            reason: Reason::WrongTag,
+            place: at,
+        });
     }
     let (from, after) = length_at(file, at, end)?;
     Ok((file[at], from, after))
@@ -83,7 +97,10 @@ pub fn tagged_at(file: &[u8], at: usize, end: usize, wanted: u8) -> Result<(usiz
 {
     let end = end.min(file.len());
     if at >= end || file[at] != wanted {
-        return Err(Refusal { reason: Reason::WrongTag, place: at });
+        return Err(Refusal {
+            reason: Reason::WrongTag,
+            place: at,
+        });
     }
     length_at(file, at, end)
 }
@@ -107,5 +124,8 @@ fn element_of<'a>(file: &'a [u8], place: usize) -> Result<Element<'a>, Refusal>
     ensures { λ r. ⌜ Reads (now (file .entry)) place r ⌝ }
 {
     let (tag, from, to) = element_at(file, place, file.len())?;
-    Ok(Element { tag, content: &file[from..to] })
+    Ok(Element {
+        tag,
+        content: &file[from..to],
+    })
 }

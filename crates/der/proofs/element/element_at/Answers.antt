@@ -12,14 +12,14 @@ returns-then-at-end c = search needs
 
 pub returns-in-Break-from : need.returns-in-Break-from
 returns-in-Break-from c =
-  let p = err-from-errBy (c .from-residual .result) (c .from-residual .ensures .1) in
-  rw (p .1, p .2) (record {
-    is = element-by-length (c .args .file .now) (c .args .at) (c .args .end) (c .min-end .result) (Err (c .in-Break-from .field-0 .0)) (c .min-end .ensures) (omega arith) (c .if-file-at-eq31 .left) (c .in-Break-from .ensures tt .is);
-    placed = tt
-  })
+    let p = err-from-errBy (c .from-residual .result) (c .from-residual .ensures .1) in
+    rw (p .1, p .2) (record {
+      is = element-by-length (c .args .file .now) (c .args .at) (c .args .end) (c .min-end .result) (Err (c .in-Break-from .field-0 .0)) (c .min-end .ensures) (omega arith) (c .if-file-at-eq31 .left) (c .in-Break-from .ensures tt .is);
+      placed = tt;
+    })
 
 pub returns : need.returns
 returns c = record {
   is = element-by-length (c .args .file .now) (c .args .at) (c .args .end) (c .min-end .result) (Ok (c .in-Continue-from .from, c .in-Continue-from .after)) (c .min-end .ensures) (omega arith) (c .if-file-at-eq31 .left) (c .in-Continue-from .ensures tt .is);
-  placed = search needs
+  placed = search needs;
 }

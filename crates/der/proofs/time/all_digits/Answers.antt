@@ -12,16 +12,16 @@ use Rattle.der.proofs.time.all_digits.Needs.{then-byte-lt48·by·then-byte-lt4
 
 pub returns-then-byte-lt48 : need.returns-then-byte-lt48
 returns-then-byte-lt48 c =
-  let xs : List ℕ = c .args .bytes .now in
-  let i : ℕ = c .loop-byte .byte-index in
-  let out : (getD xs i 0 < 48) ⊎ (57 < getD xs i 0) = elim (c .then-byte-lt48 .came) [ then-byte-lt48·by·then-byte-lt48 w ↦ inl (w .if-byte-lt48 .taken) | then-byte-lt48·by·else-byte-lt48·then-byte-gt57 w ↦ inr (w .if-byte-gt57 .taken) ] in
-  sym (digits-stop (getD xs i 0) (drop (i + 1) xs) out) ∙ (sym (at-drop-more allDigits xs i 0 (omega arith)) ∙ c .loop-byte .inv)
+    let xs : List ℕ = c .args .bytes .now in
+    let i : ℕ = c .loop-byte .byte-index in
+    let out : (getD xs i 0 < 48) ⊎ (57 < getD xs i 0) = elim (c .then-byte-lt48 .came) [ then-byte-lt48·by·then-byte-lt48 w ↦ inl (w .if-byte-lt48 .taken) | then-byte-lt48·by·else-byte-lt48·then-byte-gt57 w ↦ inr (w .if-byte-gt57 .taken) ] in
+    sym (digits-stop (getD xs i 0) (drop (i + 1) xs) out) ∙ (sym (at-drop-more allDigits xs i 0 (omega arith)) ∙ c .loop-byte .inv)
 
 pub loop-byte-again : need.loop-byte-again
 loop-byte-again c =
-  let xs : List ℕ = c .args .bytes .now in
-  let i : ℕ = c .loop-byte .byte-index in
-  sym (digits-more (getD xs i 0) (drop (i + 1) xs) (omega arith) (omega arith)) ∙ (sym (at-drop-more allDigits xs i 0 (omega arith)) ∙ c .loop-byte .inv)
+    let xs : List ℕ = c .args .bytes .now in
+    let i : ℕ = c .loop-byte .byte-index in
+    sym (digits-more (getD xs i 0) (drop (i + 1) xs) (omega arith) (omega arith)) ∙ (sym (at-drop-more allDigits xs i 0 (omega arith)) ∙ c .loop-byte .inv)
 
 pub returns : need.returns
 returns c = sym (at-drop-all allDigits (c .args .bytes .now) (c .loop-byte .byte-index) (omega arith)) ∙ c .loop-byte .inv

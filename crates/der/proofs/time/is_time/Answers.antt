@@ -10,20 +10,20 @@ use Rattle.der.proofs.time.is_time.Needs.{then-not-is-time-shaped·by·then-no
 
 pub returns-then-not-is-time-shaped : need.returns-then-not-is-time-shaped
 returns-then-not-is-time-shaped c =
-  let xs : List ℕ = c .args .content .now in
-  let is : false ≡ isTime xs = elim (c .then-not-is-time-shaped .came) [
-      then-not-is-time-shaped·by·then-not-is-time-shaped w ↦
-      ap (λ (s : Bool). s && (isInCalendar xs && isOnClock xs)) (w .if-not-is-time-shaped .ensures tt .is)
-    | then-not-is-time-shaped·by·else-not-is-time-shaped·then-not-is-in-calendar w ↦
-      ap (λ (s : Bool). s && (false && isOnClock xs)) (w .if-not-is-time-shaped .ensures tt .is)
-      ∙ ap (λ (d : Bool). isTimeShaped xs && (d && isOnClock xs)) (w .if-not-is-in-calendar .ensures tt)
+    let xs : List ℕ = c .args .content .now in
+    let is : false ≡ isTime xs = elim (c .then-not-is-time-shaped .came) [
+      | then-not-is-time-shaped·by·then-not-is-time-shaped w ↦
+          ap (λ (s : Bool). s && (isInCalendar xs && isOnClock xs)) (w .if-not-is-time-shaped .ensures tt .is)
+      | then-not-is-time-shaped·by·else-not-is-time-shaped·then-not-is-in-calendar w ↦
+          ap (λ (s : Bool). s && (false && isOnClock xs)) (w .if-not-is-time-shaped .ensures tt .is)
+          ∙ ap (λ (d : Bool). isTimeShaped xs && (d && isOnClock xs)) (w .if-not-is-in-calendar .ensures tt)
     ] in
-  record { is = is; means = decides-at _ _ is (time-decides xs) }
+    record { is = is; means = decides-at _ _ is (time-decides xs) }
 
 pub returns : need.returns
 returns c =
-  let xs : List ℕ = c .args .content .now in
-  let shaped : true ≡ isTimeShaped xs = c .if-not-is-time-shaped .ensures tt .is in
-  let is : c .is-on-clock .result ≡ isTime xs =
+    let xs : List ℕ = c .args .content .now in
+    let shaped : true ≡ isTimeShaped xs = c .if-not-is-time-shaped .ensures tt .is in
+    let is : c .is-on-clock .result ≡ isTime xs =
     c .is-on-clock .ensures ∙ (ap (λ (s : Bool). s && (true && isOnClock xs)) shaped ∙ ap (λ (d : Bool). isTimeShaped xs && (d && isOnClock xs)) (c .if-not-is-in-calendar .ensures tt)) in
-  record { is = is; means = decides-at _ _ is (time-decides xs) }
+    record { is = is; means = decides-at _ _ is (time-decides xs) }

@@ -1,0 +1,91 @@
+// The commands of the program.
+use crate::help::HELP;
+use crate::tree::print_tree;
+use crate::words::print_refusal;
+use der::element::element_at;
+use der::element::read_element;
+use std::env;
+use std::fs;
+use std::io;
+
+// How a command ended: everything was answered, or something was refused or not understood, and that was said.
+pub enum Outcome {
+    Done,
+    Failed,
+}
+
+pub fn run(rt: &LibcRuntime) -> io::Result<Outcome> {
+    let args: Vec<String> = env::args(rt)?.skip(1).collect(rt.alloc())?;
+    let Some(command) = args.first() else {
+        return usage(rt, "no command is given");
+    };
+    match command.as_str() {
+        "--help" | "-h" | "help" => {
+            rt.print(HELP)?;
+            Ok(Outcome::Done)
+        }
+        "elements" => elements(rt, &args),
+        "element" => element(rt, &args),
+        other => {
+            eprintln!(
+                rt,
+                "rosuklam: unknown command '{other}'; try 'rosuklam --help'"
+            )?;
+            Ok(Outcome::Failed)
+        }
+    }
+}
+
+fn elements(rt: &LibcRuntime, args: &[String]) -> io::Result<Outcome> {
+    let [_, path] = args else {
+        return usage(rt, "'elements' takes one file");
+    };
+    let file = match fs::read(rt, path.as_str()) {
+        Ok(file) => file,
+        Err(error) => return unreadable(rt, path.as_str(), error),
+    };
+    match print_tree(rt, &file)? {
+        None => Ok(Outcome::Done),
+        Some(refusal) => {
+            print_refusal(rt, refusal)?;
+            Ok(Outcome::Failed)
+        }
+    }
+}
+
+fn element(rt: &LibcRuntime, args: &[String]) -> io::Result<Outcome> {
+    let [_, path, place] = args else {
+        return usage(rt, "'element' takes a file and an offset");
+    };
+    let Ok(place) = place.as_str().parse::<usize>() else {
+        return usage(rt, "the offset is no decimal number");
+    };
+    let file = match fs::read(rt, path.as_str()) {
+        Ok(file) => file,
+        Err(error) => return unreadable(rt, path.as_str(), error),
+    };
+    match (
+        read_element(&file, place),
+        element_at(&file, place, file.len()),
+    ) {
+        (Ok(element), Ok((_, from, to))) => {
+            let tag = element.tag;
+            println!(rt, "tag {tag:02X}, content {from} to {to}")?;
+            Ok(Outcome::Done)
+        }
+        (Err(refusal), _) | (_, Err(refusal)) => {
+            print_refusal(rt, refusal)?;
+            Ok(Outcome::Failed)
+        }
+    }
+}
+
+fn usage(rt: &LibcRuntime, problem: &str) -> io::Result<Outcome> {
+    eprintln!(rt, "rosuklam: {problem}; try 'rosuklam --help'")?;
+    Ok(Outcome::Failed)
+}
+
+fn unreadable(rt: &LibcRuntime, path: &str, error: io::Error) -> io::Result<Outcome> {
+    eprintln!(rt, "rosuklam: cannot read {path}: {error}")?;
+    Ok(Outcome::Failed)
+}

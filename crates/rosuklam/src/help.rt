@@ -1,0 +1,24 @@
+// What `rosuklam --help` prints.
+pub const HELP: &str = "\
+rosuklam reads TCG platform certificates and answers which parts are in a machine.
+
+Usage: rosuklam COMMAND ...
+
+  elements FILE         Prints the tree of the file's elements: for each its offset,
+                        tag and content length, indented under the one that holds it.
+                        Stops at the first element that is refused.
+                          rosuklam elements issuer.der
+
+  element FILE PLACE    Reads the one element at an offset of the file.
+                          rosuklam element issuer.der 4
+                          tag 30, content 8 to 416
+
+  --help                Prints this text.
+
+Offsets and lengths are decimal, tags hexadecimal. 'content A to B' says that the
+content begins at A and that B is the offset behind it. A refusal prints as
+'refused NUMBER at PLACE: words'; docs/REFUSALS.md explains each number.
+
+Status: 0 where everything asked for was answered; 1 where a file was refused, could
+not be read, or the command line was not understood.
+";
