@@ -1,18 +1,29 @@
 -- A number and its bytes.
-use mathlib.Core.Path.{_≡_, refl, sym, _∙_, ap}
-use mathlib.Core.Bool.{Bool, cond, true, false}
-use mathlib.Core.Logic.{_⊎_, inl, inr}
+use mathlib.Core.Path.{_≡_, refl, _∙_, ap}
+use mathlib.Core.Logic.{inl, inr}
 use mathlib.Core.List.{List, [], _∷_, _++_}
-use Prim.Native.Nat.{ℕ, zero, suc, _+_, _-_, _*_, _/_, _%_, _<_, _≤_}
-use native.Mathlib.Nat.{add-suc, add-zero, suc-add, div-add-mod'}
+use Prim.Native.Nat.{ℕ, zero, suc, _+_, _-_, _*_, _/_, _%_, _^_, _<_, _≤_}
+use native.Mathlib.Nat.{add-zero, div-add-mod', pow-suc, pow-le-pow-right}
+use native.Mathlib.Numerals.{add-one}
 use native.Mathlib.Omega.{arith}
-use lib.Dec.{ltb}
-use lib.ListN.{length, getD}
+use lib.ListN.{length}
 use Rattle.std.proofs.shelf.Tests.{cases-lt, lt-ltb, le-ltb}
 use Rattle.std.proofs.shelf.Lists.{append-nil}
 use Rattle.der.specs.Numbers.{Bytes, continued, valueOf}
 use Rattle.der.specs.Elements.{mostLengthBytes}
 use Rattle.der.specs.Encoding.{splitUp, bytesOf}
+
+-- a byte more makes at most 256 times as much
+pub more-below : (v b i : ℕ) → v < 256 ^ i → b < 256 → v * 256 + b < 256 ^ (i + 1)
+more-below v b i h k =
+    let grows : 256 ^ (i + 1) ≡ 256 ^ i * 256 = ap (λ (n : ℕ). 256 ^ n) (add-one i) ∙ pow-suc 256 i in
+    omega arith
+
+-- what fewer than seven bytes stand for has room for a byte more in 64 bits
+pub few-below : (v i : ℕ) → v < 256 ^ i → i ≤ 6 → v < 256 ^ 6
+few-below v i h few =
+    let grows : 256 ^ i ≤ 256 ^ 6 = pow-le-pow-right {n = 256} (omega arith) {i = i} {j = 6} few in
+    omega arith
 
 pub value-cons : (x : ℕ) (xs : List ℕ) → valueOf (x ∷ xs) ≡ continued x xs
 value-cons x xs = let z : 0 * 256 + x ≡ x = omega arith in ap (λ (v : ℕ). continued v xs) z

@@ -1,13 +1,13 @@
 -- Reading an element is inverse to encoding it.
 use mathlib.Core.Path.{_≡_, sym, _∙_, ap, subst}
 use mathlib.Core.Bool.{cond}
-use mathlib.Core.List.{List, [], _∷_, _++_}
-use Prim.Native.Nat.{ℕ, suc, _+_, _-_, _%_, _<_, _≤_, min}
+use mathlib.Core.List.{List, _∷_, _++_}
+use Prim.Native.Nat.{ℕ, suc, _+_, _-_, _%_, _<_, _≤_}
 use native.Mathlib.Omega.{arith}
 use lib.Dec.{leb, eqb}
 use lib.ListN.{length, getD, drop}
 use Rattle.std.proofs.shelf.Ways.{tells}
-use Rattle.std.proofs.shelf.Lists.{append-assoc, length-append, drop-all}
+use Rattle.std.proofs.shelf.Lists.{append-assoc, length-append}
 use Rattle.std.specs.declared.result.Result.{Result}
 use Rattle.std.specs.declared.result.Result.the-variants.{Ok, Err}
 use Rattle.der.specs.declared.refusal.Refusal.{Refusal}
@@ -16,7 +16,7 @@ use Rattle.der.specs.declared.element.Element.{Element}
 use Rattle.der.specs.Refusals.{refused}
 use Rattle.der.specs.Numbers.{Bytes, part}
 use Rattle.der.specs.Elements.{withTag, lengthAt, endWithin, anyAt, elementAt, wantedAt, taggedAt}
-use Rattle.der.specs.Encoding.{lengthBytes, encoded, Begins, TheElement, Tells, Stands, Reads}
+use Rattle.der.specs.Encoding.{lengthBytes, encoded, Tells, Reads}
 use Rattle.der.proofs.Parts.{part-length, part-more, part-split, part-all, same-halves}
 use Rattle.der.proofs.Lengths.{Measured, length-sound, length-complete, length-unique}
 use Rattle.der.proofs.Steps.{element-by-length}
@@ -31,7 +31,7 @@ encoded-unique t t′ c c′ r r′ e =
     let halves = same-halves c c′ r r′ (lengths .0) (lengths .1) in
     (tags, halves .0, halves .1)
 
--- an element that was read within a holder: its bytes are those of its encoding, and the rest follows
+-- an element that was read within an enclosing one: its bytes are those of its encoding, and the rest follows
 pub record Took (file : List ℕ) (at end tag from to : ℕ) : Type 0 where
   pub behind : at < from
   pub ordered : from ≤ to

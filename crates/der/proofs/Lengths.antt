@@ -3,23 +3,23 @@ use mathlib.Core.Path.{_≡_, refl, sym, _∙_, ap, subst}
 use mathlib.Core.Bool.{cond, _||_}
 use mathlib.Core.Logic.{_⊎_, inl, inr}
 use mathlib.Core.List.{List, [], _∷_, _++_}
-use Prim.Native.Nat.{ℕ, suc, _+_, _-_, _<_, _≤_}
+use Prim.Native.Nat.{ℕ, suc, _+_, _-_, _/_, _%_, _<_, _≤_}
 use native.Mathlib.Omega.{arith}
 use lib.Dec.{ltb, leb, eqb}
 use lib.ListN.{length, getD}
 use Rattle.std.proofs.shelf.Tests.{cases-lt}
 use Rattle.std.proofs.shelf.Ways.{tells}
-use Rattle.std.proofs.shelf.Lists.{length-append, append-assoc}
+use Rattle.std.proofs.shelf.Lists.{length-append}
 use Rattle.std.specs.declared.result.Result.{Result}
-use Rattle.std.specs.declared.result.Result.the-variants.{Ok, Err}
+use Rattle.std.specs.declared.result.Result.the-variants.{Ok}
 use Rattle.der.specs.declared.refusal.Refusal.{Refusal}
 use Rattle.der.specs.declared.refusal.Reason.the-variants.{CutShort, LengthForm}
 use Rattle.der.specs.Refusals.{refused}
 use Rattle.der.specs.Numbers.{Bytes, part, valueOf}
 use Rattle.der.specs.Elements.{mostLengthBytes, fitting, lengthAt}
-use Rattle.der.specs.Encoding.{bytesOf, lengthBytes}
+use Rattle.der.specs.Encoding.{bytesOf, lengthBytes, LengthForms}
 use Rattle.der.proofs.Parts.{part-length, part-none, part-more, part-split, bytes-part, same-halves}
-use Rattle.der.proofs.Digits.{First, bytes-value, bytes-read, bytes-first}
+use Rattle.der.proofs.Digits.{First, split-small, split-large, bytes-value, bytes-read, bytes-first}
 
 -- the two forms of the bytes of a length
 pub length-short : (n : ℕ) → n < 128 → lengthBytes n ≡ n ∷ []
@@ -27,6 +27,21 @@ length-short n h = grind (arith, tells)
 
 pub length-long : (n : ℕ) → 128 ≤ n → lengthBytes n ≡ (128 + length (bytesOf n)) ∷ bytesOf n
 length-long n h = grind (arith, tells)
+
+-- the forms one by one
+one-byte : (n : ℕ) → 128 ≤ n → n < 256 → lengthBytes n ≡ 0x81 ∷ n ∷ []
+one-byte n h k = length-long n h ∙ ap (λ (ys : List ℕ). (128 + length ys) ∷ ys) (split-small (mostLengthBytes - 1) n [] k)
+
+two-bytes : (n : ℕ) → 256 ≤ n → lengthBytes n ≡ 0x82 ∷ n / 256 ∷ n % 256 ∷ []
+two-bytes n h = length-long n (omega arith) ∙ ap (λ (ys : List ℕ). (128 + length ys) ∷ ys) (split-large 0 n [] h)
+
+pub length-forms : LengthForms
+length-forms = record {
+  below128 = length-short;
+  below256 = one-byte;
+  below65536 = λ n h k. two-bytes n h;
+  longer = λ n h b. omega (arith, subst (λ (ys : List ℕ). getD ys 1 0 < 256) (two-bytes n (omega arith)) (b 1));
+}
 
 -- the reading of a length over its first byte x, its first further byte y and what the further bytes stand for
 abbrev readBy : ℕ → ℕ → ℕ → ℕ → ℕ → Result (ℕ × ℕ) Refusal

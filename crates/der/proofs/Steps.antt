@@ -8,7 +8,6 @@ use lib.Dec.{leb, eqb}
 use lib.ListN.{getD}
 use Rattle.std.proofs.shelf.Ways.{tells}
 use Rattle.std.specs.declared.result.Result.{Result}
-use Rattle.std.specs.declared.result.Result.the-variants.{Ok, Err}
 use Rattle.der.specs.declared.refusal.Refusal.{Refusal}
 use Rattle.der.specs.declared.refusal.Reason.the-variants.{WrongTag}
 use Rattle.der.specs.Refusals.{refused}

@@ -1,5 +1,4 @@
 -- Reading one element: the answer for every byte string, place and end, refusals included.
-use mathlib.Core.Path.{_≡_}
 use mathlib.Core.Bool.{cond, _||_}
 use mathlib.Core.List.{List}
 use Prim.Native.Nat.{ℕ, _+_, _-_, _%_, _<_, _≤_, min}
@@ -16,7 +15,7 @@ use Rattle.der.specs.Numbers.{part, valueOf}
 abbrev pub mostLengthBytes : ℕ
 mostLengthBytes = 2
 
--- where a content begins and what follows it, if it ends within its holder
+-- where a content begins and what follows it, if it ends within the enclosing element
 abbrev pub fitting : ℕ → ℕ → ℕ → ℕ → Result (ℕ × ℕ) Refusal
 fitting at end from size = cond (ltb (end - from) size) (refused CutShort at) (Ok (from, from + size))
 
@@ -35,22 +34,24 @@ lengthAt file at end =
     (cond (eqb (getD file (at + 1) 0) 128 || ltb (128 + mostLengthBytes) (getD file (at + 1) 0)) (refused LengthForm at)
     (longLengthAt file at end (getD file (at + 1) 0 - 128))))
 
+-- the tag beside the places of the content
 abbrev pub withTag : ℕ → Result (ℕ × ℕ) Refusal → Result (ℕ × ℕ × ℕ) Refusal
 withTag tag (Ok p) = Ok (tag, p .0, p .1)
 withTag tag (Err e) = Err e
 
--- a holder that is said to end behind the file ends with the file
+-- an enclosing element that is said to end behind the file ends with the file
 abbrev pub endWithin : List ℕ → ℕ → ℕ
 endWithin file end = min end (length file)
 
--- the element at `at` whatever it is, within a holder that ends at `end`: its tag, where its content begins and
--- what follows it
+-- the element at `at`, whatever its tag, in an enclosing element that ends at `end`: its tag, where its content
+-- begins and what follows it
 abbrev pub anyAt : List ℕ → ℕ → ℕ → Result (ℕ × ℕ × ℕ) Refusal
 anyAt file at end =
     cond (leb end at) (refused WrongTag at)
     (cond (eqb (getD file at 0 % 32) 31) (refused WrongTag at)
     (withTag (getD file at 0) (lengthAt file at end)))
 
+-- the same for any end that is given
 unfoldable pub elementAt : List ℕ → ℕ → ℕ → Result (ℕ × ℕ × ℕ) Refusal
 elementAt file at end = anyAt file at (endWithin file end)
 
@@ -60,16 +61,18 @@ wantedAt file at end wanted =
     cond (leb end at) (refused WrongTag at)
     (cond (eqb (getD file at 0) wanted) (lengthAt file at end) (refused WrongTag at))
 
+-- the same for any end that is given
 unfoldable pub taggedAt : List ℕ → ℕ → ℕ → ℕ → Result (ℕ × ℕ) Refusal
 taggedAt file at end wanted = wantedAt file at (endWithin file end) wanted
 
--- a content lies behind its tag, and ends within its holder and within the file
+-- a content lies behind its tag, and ends within the enclosing element and within the file
 pub record Placed (file : List ℕ) (at end from to : ℕ) : Type 0 where
   pub behind : at < from
   pub ordered : from ≤ to
-  pub held : to ≤ end
+  pub enclosed : to ≤ end
   pub inside : to ≤ length file
 
+-- the places in an answer, with and without the tag
 abbrev pub ElementPlaced : List ℕ → ℕ → ℕ → Result (ℕ × ℕ × ℕ) Refusal → Type 0
 ElementPlaced file at end (Ok p) = Placed file at end (p .1) (p .2)
 ElementPlaced file at end (Err e) = Unit {0}

@@ -2,14 +2,14 @@
 use mathlib.Core.Path.{_≡_}
 use mathlib.Core.Bool.{cond}
 use mathlib.Core.List.{List, [], _∷_, _++_}
-use Prim.Native.Nat.{ℕ, zero, suc, _+_, _-_, _/_, _%_}
+use Prim.Native.Nat.{ℕ, zero, suc, _+_, _-_, _/_, _%_, _<_, _≤_}
 use lib.Dec.{ltb}
 use lib.ListN.{length, drop}
 use Rattle.std.specs.declared.result.Result.{Result}
 use Rattle.std.specs.declared.result.Result.the-variants.{Ok, Err}
 use Rattle.der.specs.declared.refusal.Refusal.{Refusal}
 use Rattle.der.specs.declared.element.Element.{Element}
-use Rattle.der.specs.Numbers.{part}
+use Rattle.der.specs.Numbers.{Bytes, part}
 use Rattle.der.specs.Elements.{mostLengthBytes, elementAt}
 
 -- a number and what follows it, the number split in two as long as it does not fit in a byte, but at most so often
@@ -18,13 +18,20 @@ splitUp zero top rest = top ∷ rest
 splitUp (suc times) top rest = cond (ltb top 256) (top ∷ rest) (splitUp times (top / 256) (top % 256 ∷ rest))
 
 -- the bytes of a number, high byte first and as few as they can be; a number that is too large for the most length
--- bytes keeps a first one that is no byte, so that it has no encoding in any file
+-- bytes keeps a first one that is no byte
 abbrev pub bytesOf : ℕ → List ℕ
 bytesOf n = splitUp (mostLengthBytes - 1) n []
 
 -- the bytes of a length: itself where it is below 128, else 128 and the count of its bytes, then its bytes
 abbrev pub lengthBytes : ℕ → List ℕ
 lengthBytes n = cond (ltb n 128) (n ∷ []) ((128 + length (bytesOf n)) ∷ bytesOf n)
+
+-- what that comes to, form by form; a longer content has no encoding in bytes
+pub record LengthForms : Type 0 where
+  pub below128 : (n : ℕ) → n < 128 → lengthBytes n ≡ n ∷ []
+  pub below256 : (n : ℕ) → 128 ≤ n → n < 256 → lengthBytes n ≡ 0x81 ∷ n ∷ []
+  pub below65536 : (n : ℕ) → 256 ≤ n → n < 65536 → lengthBytes n ≡ 0x82 ∷ n / 256 ∷ n % 256 ∷ []
+  pub longer : (n : ℕ) → 65536 ≤ n → Bytes (lengthBytes n) → ⊥
 
 -- an element: its tag, its length, its content
 unfoldable pub encoded : ℕ → List ℕ → List ℕ

@@ -15,9 +15,11 @@ pub record Between (low n high : ℕ) : Type 0 where
   pub least : low ≤ n
   pub most : n ≤ high
 
+-- its test
 abbrev pub isBetween : ℕ → ℕ → ℕ → Bool
 isBetween low n high = leb low n && leb n high
 
+-- fourteen digits and Z; month, day, hour, minute and second in their ranges
 pub record Time (content : List ℕ) : Type 0 where
   pub size : length content ≡ 15
   pub digits : (k : ℕ) → k < 14 → Between 48 (getD content k 0) 57
@@ -28,11 +30,12 @@ pub record Time (content : List ℕ) : Type 0 where
   pub minute : Between 0 (twoDigits content 10) 59
   pub second : Between 0 (twoDigits content 12) 59
 
+-- every byte is a digit
 abbrev pub allDigits : List ℕ → Bool
 allDigits [] = true
 allDigits (x ∷ xs) = isBetween 48 x 57 && allDigits xs
 
--- fourteen digits and Z
+-- the test of a time, in three parts: fourteen digits and Z
 abbrev pub isTimeShaped : List ℕ → Bool
 isTimeShaped content = eqb (length content) 15 && (allDigits (take 14 content) && eqb (getD content 14 0) 90)
 
@@ -45,5 +48,6 @@ abbrev pub isOnClock : List ℕ → Bool
 isOnClock content =
     isBetween 0 (twoDigits content 8) 23 && (isBetween 0 (twoDigits content 10) 59 && isBetween 0 (twoDigits content 12) 59)
 
+-- all of it
 abbrev pub isTime : List ℕ → Bool
 isTime content = isTimeShaped content && (isInCalendar content && isOnClock content)

@@ -1,17 +1,17 @@
 // The reader of one element.
 ghost use mathlib.Core.Path.{_≡_};
-ghost use Prim.Native.Nat.{ℕ, _+_, _-_, _<_, _≤_};
-ghost use lib.ListN.{length, getD};
+ghost use Prim.Native.Nat.{_+_, _-_, _<_, _≤_};
+ghost use lib.ListN.{length};
 ghost use Rattle.der.specs.Numbers.{valueOf};
 ghost use Rattle.der.specs.Elements.{fitting, lengthAt, elementAt, taggedAt, ElementPlaced, ContentPlaced};
-ghost use Rattle.der.specs.Encoding.{Reads, Tells};
+ghost use Rattle.der.specs.Encoding.{Reads, Tells, LengthForms};
 use crate::refusal::Reason;
 use crate::refusal::Refusal;
 
 // The most bytes that a length may take behind its first one.
 const MOST_LENGTH_BYTES: usize = 2;
 
-// The number that few bytes stand for, high byte first.
+// The number that bytes stand for, high byte first. Seven bytes fit a `usize`.
 fn number_of(bytes: &[u8]) -> usize
     requires { ⌜ length (now bytes) ≤ 7 ⌝ }
     ensures { λ r. ⌜ r ≡ valueOf (now (bytes .entry)) ⌝ }
@@ -29,10 +29,7 @@ fn within(at: usize, end: usize, from: usize, size: usize) -> Result<(usize, usi
     ensures { λ r. ⌜ r ≡ fitting at end from size ⌝ }
 {
     if end - from < size {
-        return Err(Refusal {
-            reason: Reason::CutShort,
-            place: at,
-        });
+        return Err(Reason::CutShort.at(at));
     }
     Ok((from, from + size))
 }
@@ -43,16 +40,8 @@ fn length_at(file: &[u8], at: usize, end: usize) -> Result<(usize, usize), Refus
     ensures is { λ r. ⌜ r ≡ lengthAt (now (file .entry)) at end ⌝ }
     ensures placed { λ r. ⌜ ContentPlaced (now (file .entry)) at end r ⌝ }
 {
-    let cut_short = Refusal {
-        reason: Reason::CutShort,
-        place: at,
-    };
-    let bad_form = Refusal {
-        reason: Reason::LengthForm,
-        place: at,
-    };
     if at + 1 >= end {
-        return Err(cut_short);
+        return Err(Reason::CutShort.at(at));
     }
     let first = file[at + 1] as usize;
     let from = at + 2;
@@ -60,31 +49,28 @@ fn length_at(file: &[u8], at: usize, end: usize) -> Result<(usize, usize), Refus
         return within(at, end, from, first);
     }
     if first == 0x80 || first > 0x80 + MOST_LENGTH_BYTES {
-        return Err(bad_form);
+        return Err(Reason::LengthForm.at(at));
     }
     let count = first - 0x80;
     if end - from < count {
-        return Err(cut_short);
+        return Err(Reason::CutShort.at(at));
     }
     let size = number_of(&file[from..from + count]);
     if file[from] == 0 || size < 0x80 {
-        return Err(bad_form);
+        return Err(Reason::LengthForm.at(at));
     }
     within(at, end, from + count, size)
 }
 
-// The element at `at`, whatever its tag, in a holder that ends at `end`: its tag, where its content begins and
-// what follows it. A holder that is said to end behind the file ends with the file.
+// The element at `at`, whatever its tag, in an enclosing element that ends at `end`: its tag, where its content
+// begins and what follows it. An enclosing element that is said to end behind the file ends with the file.
 pub fn element_at(file: &[u8], at: usize, end: usize) -> Result<(u8, usize, usize), Refusal>
     ensures is { λ r. ⌜ r ≡ elementAt (now (file .entry)) at end ⌝ }
     ensures placed { λ r. ⌜ ElementPlaced (now (file .entry)) at end r ⌝ }
 {
     let end = end.min(file.len());
     if at >= end || file[at] % 32 == 31 {
-        return Err(Refusal {
-            reason: Reason::WrongTag,
-            place: at,
-        });
+        return Err(Reason::WrongTag.at(at));
     }
     let (from, after) = length_at(file, at, end)?;
     Ok((file[at], from, after))
@@ -97,10 +83,7 @@ pub fn tagged_at(file: &[u8], at: usize, end: usize, wanted: u8) -> Result<(usiz
 {
     let end = end.min(file.len());
     if at >= end || file[at] != wanted {
-        return Err(Refusal {
-            reason: Reason::WrongTag,
-            place: at,
-        });
+        return Err(Reason::WrongTag.at(at));
     }
     length_at(file, at, end)
 }
@@ -112,10 +95,11 @@ pub struct Element<'a> {
     pub content: &'a [u8],
 }
 
-// The element at `place` of the file, whatever its tag.
+// The element at `place` of the file, whatever its tag. Reading is inverse to encoding: `tells` says so.
 pub fn read_element<'a>(file: &'a [u8], place: usize) -> Result<Element<'a>, Refusal>
     ensures reads { λ r. ⌜ Reads (now (file .entry)) place r ⌝ }
     ensures tells { λ r. ⌜ Tells (now (file .entry)) place r ⌝ }
+    ensures lengths { λ _. ⌜ LengthForms ⌝ }
 {
     element_of(file, place)
 }

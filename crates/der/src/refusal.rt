@@ -39,6 +39,16 @@ impl Reason {
     {
         self as u8
     }
+
+    // The refusal for this reason, at a place.
+    pub fn at(self, place: usize) -> Refusal
+        ensures { λ r. ⌜ r ≡ record { reason = self; place = place } ⌝ }
+    {
+        Refusal {
+            reason: self,
+            place,
+        }
+    }
 }
 
 // A refusal: the reason and the place it counts at. In a file the place is an offset;

@@ -1,12 +1,12 @@
 use native.Mathlib.Omega.{arith}
-use mathlib.Core.Path.{_≡_, _∙_, ap, sym}
-use Prim.Native.Nat.{ℕ, _+_, _*_, _<_}
+use mathlib.Core.Path.{_∙_, ap, sym}
+use Prim.Native.Nat.{ℕ, _+_, _*_}
 use mathlib.Core.List.{List}
 use lib.ListN.{getD}
 use Rattle.std.proofs.shelf.Sums.{folded-more}
 use Rattle.std.proofs.shelf.Lists.{take-all}
 use Rattle.der.specs.Numbers.{valueOf}
-use Rattle.der.proofs.Bytes.{more-below, few-below}
+use Rattle.der.proofs.Digits.{more-below, few-below}
 use Rattle.der.proofs.element.number_of.Needs as need
 
 pub mul-value : need.mul-value
