@@ -1,0 +1,6 @@
+pub mod Lists
+pub mod Layering
+pub mod Kept
+pub mod Tells
+pub mod Decided
+pub mod Story
