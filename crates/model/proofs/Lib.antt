@@ -1,4 +1,5 @@
 pub mod Lists
+pub mod Audit
 pub mod Layering
 pub mod Kept
 pub mod Tells

@@ -14,6 +14,7 @@ use Rattle.model.specs.declared.part.Change.{Change}
 use Rattle.model.specs.declared.part.Status.{Status}
 use Rattle.model.specs.Orders.{Lawful, by, ifSame}
 use Rattle.model.specs.Parts.{AllAbove, Is, Over, Rising, Smallest, above, cut, lookup, part, put, settle}
+use Rattle.model.specs.Laws.{PartLaws}
 use Rattle.model.specs.Changes.{additions, adds, applied, appliedAll, byStatus, latest, removals, removes, said, saidOr}
 use Rattle.model.specs.declared.part.Status.the-variants.{Added, Modified, Removed}
 
@@ -366,3 +367,21 @@ module _ {K D : Type 0} (cmp : K → K → Ordering) (laws : Lawful cmp) where
       let pq : p ≡ q = cc in
       let r : l ≡ n = walks-one m (Some (q .key)) l n (rw pq at (w .1)) (v .1) in
       cc
+
+  -- ---- all of it
+
+  pub part-laws : PartLaws K D cmp
+  part-laws = record {
+    put-same = put-same;
+    put-other = put-other;
+    put-rising = put-rising;
+    put-grows = put-grows;
+    put-keeps = put-keeps;
+    cut-same = cut-same;
+    cut-other = cut-other;
+    cut-rising = cut-rising;
+    cut-shrinks = cut-shrinks;
+    cut-keeps = cut-keeps;
+    extensional = extensional;
+    above-smallest = above-smallest;
+  }

@@ -12,9 +12,9 @@ use Rattle.std.specs.declared.result.Result.the-variants.{Ok, Err}
 use Rattle.der.specs.declared.refusal.Refusal.{Refusal}
 use Rattle.model.specs.declared.part.Part.{Part}
 use Rattle.model.specs.declared.part.Change.{Change}
-use Rattle.model.specs.Parts.{lookup}
+use Rattle.model.specs.Parts.{lookup, Finding, Showing, Counting}
 use Rattle.model.specs.Changes.{saidOr, latest}
-use Rattle.model.specs.Layers.{Meaning, Delta, Layer, meaning, Finding, Showing, Counting, Heading, Laying, Staging, Booking, Withdrawing}
+use Rattle.model.specs.Layers.{Meaning, Delta, Layer, meaning, Heading, Laying, Staging, Booking, Withdrawing}
 
 -- a call, with what it was given and what it answered
 pub data Event (K D H : Type 0) : Type 0 where
@@ -162,9 +162,9 @@ module _ {K D H : Type 0} (cmp : K → K → Ordering) where
   Step bottom (staged δ a) p q = AtTop (λ s t. Staging cmp s δ a t) p q
   Step bottom (booked n a) p q = AtTop (λ s t. Booking cmp s n a t) p q
   Step bottom (withdrawn n a) p q = AtTop (λ s t. Withdrawing s n a t) p q
-  Step bottom (found k a) p q = Finding cmp (top bottom p) k a × (q ≡ p)
-  Step bottom (shown k a) p q = Showing cmp (top bottom p) k a × (q ≡ p)
-  Step bottom (counted a) p q = Counting (top bottom p) a × (q ≡ p)
+  Step bottom (found k a) p q = Finding cmp (top bottom p .parts) k a × (q ≡ p)
+  Step bottom (shown k a) p q = Showing cmp (top bottom p .parts) k a × (q ≡ p)
+  Step bottom (counted a) p q = Counting (top bottom p .parts) a × (q ≡ p)
   Step bottom (headed a) p q = Heading (top bottom p) a × (q ≡ p)
 
   -- a pile is made as its bottom alone; then come calls

@@ -18,7 +18,7 @@ use Rattle.model.specs.declared.part.Change.{Change}
 use Rattle.model.specs.declared.part.Memory.{Memory}
 use Rattle.model.specs.declared.part.Status.the-variants.{Added}
 use Rattle.model.specs.Orders.{ifSame}
-use Rattle.model.specs.Parts.{Is, lookup, above, settle, mostParts}
+use Rattle.model.specs.Parts.{Is, lookup, settle, mostParts}
 use Rattle.model.specs.Changes.{said, appliedAll}
 
 -- the most keys that a layer remembers
@@ -64,10 +64,6 @@ FirstUnmet [] r = ⊥
 FirstUnmet (d ∷ ds) r = ((d .met → ⊥) × (r ≡ d .refusal)) ⊎ (d .met × FirstUnmet ds r)
 
 module _ {K D H : Type 0} where
-  -- count answers the number of parts
-  abbrev pub Counting : Meaning K D H → ℕ → Type 0
-  Counting m n = n ≡ length (m .parts)
-
   -- head answers the head
   abbrev pub Heading : Meaning K D H → H → Type 0
   Heading m a = a ≡ m .head
@@ -129,14 +125,6 @@ module _ {K D H : Type 0} (cmp : K → K → Ordering) where
   -- what a layer means
   abbrev pub meaning : Layer K D H → Meaning K D H
   meaning s = record { parts = overlaid cmp (s .remembered) (s .base .parts); head = s .head }
-
-  -- find answers the details of the key, or none
-  abbrev pub Finding : Meaning K D H → K → Option D → Type 0
-  Finding m k a = a ≡ lookup cmp k (m .parts)
-
-  -- next answers the part with the smallest key above, or none
-  abbrev pub Showing : Meaning K D H → Option K → Option (Part K D) → Type 0
-  Showing m k a = a ≡ above cmp k (m .parts)
 
   -- what staging demands, in the order in which it is tried
   abbrev pub stagingDemands : Layer K D H → Delta K D H → List Demand

@@ -2,6 +2,7 @@ pub mod Orders
 pub mod Parts
 pub mod Changes
 pub mod Laws
+pub mod Audits
 pub mod Layers
 pub mod Histories
 pub mod Promise

@@ -29,6 +29,11 @@ module _ {K : Type 0} (cmp : K → K → Ordering) where
   Over None q = Unit {0}
   Over (Some k) q = cmp k q ≡ Less
 
+module _ {K D : Type 0} where
+  -- count answers the number of parts
+  abbrev pub Counting : List (Part K D) → ℕ → Type 0
+  Counting l n = n ≡ length l
+
 module _ {K D : Type 0} (cmp : K → K → Ordering) where
   -- every part of l has a key above k
   abbrev pub AllAbove : K → List (Part K D) → Type 0
@@ -57,7 +62,15 @@ module _ {K D : Type 0} (cmp : K → K → Ordering) where
   above (Some k) [] = None
   above (Some k) (p ∷ l) = by (cmp k (p .key)) (Some p) (above (Some k) l) (above (Some k) l)
 
-  -- what `next` above k is to answer, where t says of each key what is fitted: the part with the smallest key above
+  -- the questions of an inventory that means l: find answers the details of the key, or none
+  abbrev pub Finding : List (Part K D) → K → Option D → Type 0
+  Finding l k a = a ≡ lookup k l
+
+  -- next answers the first part above k, or none
+  abbrev pub Showing : List (Part K D) → Option K → Option (Part K D) → Type 0
+  Showing l k a = a ≡ above k l
+
+  -- what that is, where t says of each key what is fitted: the part with the smallest key above
   -- k, or none where nothing above k is fitted
   abbrev pub Smallest : (K → Option D) → Option K → Option (Part K D) → Type 0
   Smallest t k None = (q : K) → Over cmp k q → t q ≡ None

@@ -1,0 +1,4 @@
+pub mod Bounds
+pub mod Bytewise
+pub mod Keys
+pub mod Details
