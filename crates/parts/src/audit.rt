@@ -5,8 +5,8 @@ ghost use Rattle.model.specs.Audits.{Auditing, Agreeing};
 ghost use Rattle.parts.specs.Keys.{order};
 use crate::details::Details;
 use crate::inventory::Inventory;
+use crate::inventory::first;
 use crate::key::Key;
-use crate::key::calls::no_key;
 use model::part::Part;
 use std::cmp::Ordering;
 
@@ -62,7 +62,7 @@ fn next_after<I: Inventory>(inventory: &I, passed: Option<Key>) -> Option<Part<K
     ensures { λ r. ⌜ Showing order (I·Inventory .parts (now (inventory .entry))) passed r ⌝ }
 {
     match passed {
-        None => inventory.next(no_key()),
+        None => first(inventory),
         Some(key) => inventory.next(Some(&key)),
     }
 }

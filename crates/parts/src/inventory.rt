@@ -4,6 +4,7 @@ ghost use mathlib.Core.List.{List};
 ghost use Prim.Native.Nat.{_≤_};
 ghost use lib.ListN.{length};
 ghost use Rattle.std.specs.Options.{mapped};
+ghost use Rattle.std.specs.declared.option.Option.the-variants.{None};
 ghost use Rattle.model.specs.declared.part.Part.{Part};
 ghost use Rattle.model.specs.Parts.{Rising, Finding, Showing, Counting, mostParts};
 ghost use Rattle.parts.specs.declared.key.Key.{Key};
@@ -51,4 +52,19 @@ pub trait Certified: Inventory {
 
     fn head(&self) -> Head
         ensures { λ r. ⌜ r ≡ named (now (self .entry)) ⌝ };
+}
+
+// The part with the smallest key of all, or none: a walk begins with it.
+pub fn first<I: Inventory>(inventory: &I) -> Option<Part<Key, Details>>
+    requires { ⌜ I·Inventory .bounded (now inventory) ⌝ }
+    ensures { λ r. ⌜ Showing order (I·Inventory .parts (now (inventory .entry))) None r ⌝ }
+{
+    inventory.next(no_key())
+}
+
+// No key. Written in place it would be a reference that nothing lends, which the checker does not cover.
+fn no_key<'a>() -> Option<&'a Key>
+    ensures { λ r. ⌜ r ≡ None ⌝ }
+{
+    None
 }

@@ -6,3 +6,6 @@ pub mod head;
 pub mod inventory;
 pub mod key;
 pub mod laws;
+
+#[cfg(test)]
+mod tests;

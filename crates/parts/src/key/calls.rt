@@ -1,6 +1,5 @@
 // Making, reading and comparing keys.
 ghost use mathlib.Core.Path.{_≡_};
-ghost use Rattle.std.specs.declared.option.Option.the-variants.{None};
 ghost use Rattle.parts.specs.Bytewise.{lexed};
 ghost use Rattle.parts.specs.Keys.{registryOf, numberOf, fieldsOf, lentFields, inTurn, said, read, keyOf, order};
 use crate::bounded::Text;
@@ -116,11 +115,4 @@ impl Key {
     {
         self.against(other.fields())
     }
-}
-
-// No key, as `next` takes it: a walk begins with it.
-pub fn no_key<'a>() -> Option<&'a Key>
-    ensures { λ r. ⌜ r ≡ None ⌝ }
-{
-    None
 }
