@@ -6,6 +6,5 @@ pub mod head;
 pub mod inventory;
 pub mod key;
 pub mod laws;
-
 #[cfg(test)]
 mod tests;

@@ -17,7 +17,10 @@ fn told<T: Drop>(answer: Result<T, Refusal>) -> (u8, usize) {
 fn keys_made() -> Result<(), Fail> {
     let class = [0u8; 4];
     check_eq(told(Key::new(1, class, b"A", b"B", b"C")), (0, 0))?;
-    check_eq(told(Key::new(4, class, &[1; 64], &[2; 64], &[3; 64])), (0, 0))?;
+    check_eq(
+        told(Key::new(4, class, &[1; 64], &[2; 64], &[3; 64])),
+        (0, 0),
+    )?;
     check_eq(told(Key::new(0, class, b"A", b"B", b"C")), (6, 0))?;
     check_eq(told(Key::new(5, class, b"A", b"B", b"C")), (6, 0))?;
     check_eq(told(Key::new(1, class, b"", b"B", b"C")), (7, 2))?;
@@ -56,14 +59,62 @@ fn ranked(a: Result<Key, Refusal>, b: Result<Key, Refusal>) -> u8 {
 fn keys_ordered() -> Result<(), Fail> {
     let low = [0, 0, 1, 0];
     let high = [0, 1, 0, 0];
-    check_eq(ranked(Key::new(1, low, b"A", b"B", b"C"), Key::new(1, low, b"A", b"B", b"C")), 1)?;
+    check_eq(
+        ranked(
+            Key::new(1, low, b"A", b"B", b"C"),
+            Key::new(1, low, b"A", b"B", b"C"),
+        ),
+        1,
+    )?;
     // The registry comes first, then the class, high byte first, then the texts in turn.
-    check_eq(ranked(Key::new(1, high, b"Z", b"B", b"C"), Key::new(2, low, b"A", b"B", b"C")), 0)?;
-    check_eq(ranked(Key::new(2, high, b"A", b"B", b"C"), Key::new(2, low, b"Z", b"B", b"C")), 2)?;
-    check_eq(ranked(Key::new(1, low, b"A", b"Z", b"C"), Key::new(1, low, b"B", b"B", b"C")), 0)?;
-    check_eq(ranked(Key::new(1, low, b"A", b"B", b"Z"), Key::new(1, low, b"A", b"C", b"A")), 0)?;
-    check_eq(ranked(Key::new(1, low, b"A", b"B", b"D"), Key::new(1, low, b"A", b"B", b"C")), 2)?;
+    check_eq(
+        ranked(
+            Key::new(1, high, b"Z", b"B", b"C"),
+            Key::new(2, low, b"A", b"B", b"C"),
+        ),
+        0,
+    )?;
+    check_eq(
+        ranked(
+            Key::new(2, high, b"A", b"B", b"C"),
+            Key::new(2, low, b"Z", b"B", b"C"),
+        ),
+        2,
+    )?;
+    check_eq(
+        ranked(
+            Key::new(1, low, b"A", b"Z", b"C"),
+            Key::new(1, low, b"B", b"B", b"C"),
+        ),
+        0,
+    )?;
+    check_eq(
+        ranked(
+            Key::new(1, low, b"A", b"B", b"Z"),
+            Key::new(1, low, b"A", b"C", b"A"),
+        ),
+        0,
+    )?;
+    check_eq(
+        ranked(
+            Key::new(1, low, b"A", b"B", b"D"),
+            Key::new(1, low, b"A", b"B", b"C"),
+        ),
+        2,
+    )?;
     // A proper beginning comes first, also before a zero byte.
-    check_eq(ranked(Key::new(1, low, b"A", b"B", b"C"), Key::new(1, low, b"A", b"B", b"C\x00")), 0)?;
-    check_eq(ranked(Key::new(1, low, b"AB", b"B", b"C"), Key::new(1, low, b"B", b"B", b"C")), 0)
+    check_eq(
+        ranked(
+            Key::new(1, low, b"A", b"B", b"C"),
+            Key::new(1, low, b"A", b"B", b"C\x00"),
+        ),
+        0,
+    )?;
+    check_eq(
+        ranked(
+            Key::new(1, low, b"AB", b"B", b"C"),
+            Key::new(1, low, b"B", b"B", b"C"),
+        ),
+        0,
+    )
 }
