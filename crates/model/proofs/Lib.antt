@@ -1,5 +1,7 @@
 pub mod Lists
 pub mod Audit
+pub mod Rises
+pub mod Scan
 pub mod Layering
 pub mod Kept
 pub mod Tells

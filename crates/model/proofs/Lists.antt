@@ -56,7 +56,7 @@ chosen None Less c y = refl
 chosen None Equal c y = refl
 chosen None Greater c y = refl
 
-by-past : {A : Type 0} (o : Ordering) (x y : A) → (o ≡ Less → ⊥) → by o x y y ≡ y
+pub by-past : {A : Type 0} (o : Ordering) (x y : A) → (o ≡ Less → ⊥) → by o x y y ≡ y
 by-past Less x y n = absurd (n refl)
 by-past Equal x y n = refl
 by-past Greater x y n = refl

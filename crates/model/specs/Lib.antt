@@ -1,6 +1,7 @@
 pub mod Orders
 pub mod Parts
 pub mod Changes
+pub mod Rises
 pub mod Laws
 pub mod Audits
 pub mod Layers

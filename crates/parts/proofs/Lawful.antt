@@ -20,7 +20,7 @@ use Rattle.parts.specs.declared.key.Registry.{Registry}
 use Rattle.parts.specs.declared.key.Registry.the-variants.{Tcg, Dmtf, Pcie, Storage}
 use Rattle.parts.specs.Bytewise.{lexed, ByteOrder}
 use Rattle.parts.specs.Bounds.{content}
-use Rattle.parts.specs.Keys.{numberOf, registryOf, order}
+use Rattle.parts.specs.Keys.{Fields, said, fieldsOf, numberOf, registryOf, order}
 use Rattle.parts.proofs.Same.{same-content}
 
 -- ---- one after the other
@@ -131,14 +131,20 @@ key-path k j r c m n s = λ i. record {
   four = isProp→PathP (λ j. length (c j) ≡ 4) (λ j. ℕ-set _ _) (k .four) (j .four) i;
 }
 
+-- keys are told by their fields
+pub key-only : (k j : Key) → fieldsOf k ≡ fieldsOf j → k ≡ j
+key-only k j e =
+    key-path k j
+    (registry-only (k .registry) (j .registry) (ap (λ (f : Fields). f .registry) e))
+    (ap (λ (f : Fields). f .class) e)
+    (same-content (k .maker) (j .maker) (ap (λ (f : Fields). f .maker) e))
+    (same-content (k .model) (j .model) (ap (λ (f : Fields). f .model) e))
+    (same-content (k .serial) (j .serial) (ap (λ (f : Fields). f .serial) e))
+
 apart : (k j : Key) → five k ≡ five j → k ≡ j
 apart k j e =
-    key-path k j
-    (registry-only (k .registry) (j .registry) (ap (λ (t : Five). t .0) e))
-    (ap (λ (t : Five). t .1 .0) e)
-    (same-content (k .maker) (j .maker) (ap (λ (t : Five). t .1 .1 .0) e))
-    (same-content (k .model) (j .model) (ap (λ (t : Five). t .1 .1 .1 .0) e))
-    (same-content (k .serial) (j .serial) (ap (λ (t : Five). t .1 .1 .1 .1) e))
+    key-only k j
+    (λ i. said (e i .0) (e i .1 .0) (e i .1 .1 .0) (e i .1 .1 .1 .0) (e i .1 .1 .1 .1))
 
 pub order-lawful : Lawful order
 order-lawful = along-lawful five apart (paired-lawful rank-lawful (paired-lawful lexed-lawful (paired-lawful lexed-lawful (paired-lawful lexed-lawful lexed-lawful))))

@@ -22,7 +22,7 @@ module _ {least most : ℕ} where
     padded = isProp→PathP (λ j. drop (e j) (f j) ≡ replicate (most - e j) 0) (λ j. List·isSet ℕ-set _ _) (s .padded) (t .padded) i;
   }
 
-  content-length : (t : Bounded least most) → length (content t) ≡ t .len
+  pub content-length : (t : Bounded least most) → length (content t) ≡ t .len
   content-length t = let f = t .full in let w = t .within in length-take-le (t .len) (t .bytes) (omega arith)
 
   pub same-content : (s t : Bounded least most) → content s ≡ content t → s ≡ t

@@ -1,9 +1,14 @@
 // The commands of the program.
 use crate::help::HELP;
+use crate::reports::print_differences;
+use crate::reports::print_parts;
 use crate::tree::print_tree;
 use crate::words::print_refusal;
 use der::element::element_at;
 use der::element::read_element;
+use der::refusal::Refusal;
+use report::check::check_report;
+use report::report::Report;
 use std::env;
 use std::fs;
 use std::io;
@@ -26,6 +31,8 @@ pub fn run(rt: &LibcRuntime) -> io::Result<Outcome> {
         }
         "elements" => elements(rt, &args),
         "element" => element(rt, &args),
+        "report" => report(rt, &args),
+        "audit" => audit(rt, &args),
         other => {
             eprintln!(
                 rt,
@@ -78,6 +85,50 @@ fn element(rt: &LibcRuntime, args: &[String]) -> io::Result<Outcome> {
             Ok(Outcome::Failed)
         }
     }
+}
+
+fn report(rt: &LibcRuntime, args: &[String]) -> io::Result<Outcome> {
+    let [_, path] = args else {
+        return usage(rt, "'report' takes one probe report");
+    };
+    let file = match fs::read(rt, path.as_str()) {
+        Ok(file) => file,
+        Err(error) => return unreadable(rt, path.as_str(), error),
+    };
+    if let Err(refusal) = check_report(&file) {
+        print_refusal(rt, refusal)?;
+        return Ok(Outcome::Failed);
+    }
+    print_parts(rt, &Report::make(&file))?;
+    Ok(Outcome::Done)
+}
+
+fn audit(rt: &LibcRuntime, args: &[String]) -> io::Result<Outcome> {
+    let [_, first, second] = args else {
+        return usage(rt, "'audit' takes two probe reports");
+    };
+    let left = match fs::read(rt, first.as_str()) {
+        Ok(file) => file,
+        Err(error) => return unreadable(rt, first.as_str(), error),
+    };
+    let right = match fs::read(rt, second.as_str()) {
+        Ok(file) => file,
+        Err(error) => return unreadable(rt, second.as_str(), error),
+    };
+    if let Err(refusal) = check_report(&left) {
+        return refused(rt, first.as_str(), refusal);
+    }
+    if let Err(refusal) = check_report(&right) {
+        return refused(rt, second.as_str(), refusal);
+    }
+    print_differences(rt, &Report::make(&left), &Report::make(&right))?;
+    Ok(Outcome::Done)
+}
+
+fn refused(rt: &LibcRuntime, path: &str, refusal: Refusal) -> io::Result<Outcome> {
+    print!(rt, "{path}: ")?;
+    print_refusal(rt, refusal)?;
+    Ok(Outcome::Failed)
 }
 
 fn usage(rt: &LibcRuntime, problem: &str) -> io::Result<Outcome> {

@@ -1,6 +1,8 @@
 // The program rosuklam: reads files, calls the library and prints its answers.
 mod commands;
 mod help;
+mod notation;
+mod reports;
 mod tree;
 mod words;
 

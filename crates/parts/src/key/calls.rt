@@ -83,30 +83,11 @@ impl Key {
         }
     }
 
-    // Against a key that stands in lent bytes: each field is compared only where the ones before it are equal.
+    // Against a key that stands in lent bytes.
     pub fn against(&self, other: LentKey<'_>) -> Ordering
         ensures { λ r. ⌜ r ≡ inTurn (fieldsOf (now (self .entry))) (lentFields (other .entry)) ⌝ }
     {
-        let registry = self.registry.number();
-        if registry < other.registry {
-            return Ordering::Less;
-        }
-        if registry > other.registry {
-            return Ordering::Greater;
-        }
-        match bytewise(&self.class, other.class) {
-            Ordering::Equal => {}
-            found => return found,
-        }
-        match bytewise(self.maker.held(), other.maker) {
-            Ordering::Equal => {}
-            found => return found,
-        }
-        match bytewise(self.model.held(), other.model) {
-            Ordering::Equal => {}
-            found => return found,
-        }
-        bytewise(self.serial.held(), other.serial)
+        self.fields().compare_lent(other)
     }
 
     // The order of keys.
@@ -114,5 +95,32 @@ impl Key {
         ensures { λ r. ⌜ r ≡ order (now (self .entry)) (now (other .entry)) ⌝ }
     {
         self.against(other.fields())
+    }
+}
+
+impl LentKey<'_> {
+    // By the fields in turn: each is compared only where the ones before it are equal.
+    pub fn compare_lent(self, other: LentKey<'_>) -> Ordering
+        ensures { λ r. ⌜ r ≡ inTurn (lentFields (self .entry)) (lentFields (other .entry)) ⌝ }
+    {
+        if self.registry < other.registry {
+            return Ordering::Less;
+        }
+        if self.registry > other.registry {
+            return Ordering::Greater;
+        }
+        match bytewise(self.class, other.class) {
+            Ordering::Equal => {}
+            found => return found,
+        }
+        match bytewise(self.maker, other.maker) {
+            Ordering::Equal => {}
+            found => return found,
+        }
+        match bytewise(self.model, other.model) {
+            Ordering::Equal => {}
+            found => return found,
+        }
+        bytewise(self.serial, other.serial)
     }
 }

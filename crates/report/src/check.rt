@@ -1,0 +1,163 @@
+// The check of a probe report.
+ghost use mathlib.Core.Path.{_≡_};
+ghost use Prim.Native.Nat.{_+_, _-_, _*_, _≤_, _<_};
+ghost use lib.ListN.{length, getD};
+ghost use Rattle.std.specs.declared.result.Result.the-variants.{Ok};
+ghost use Rattle.std.specs.Orderings.{isLt};
+ghost use Rattle.parts.specs.Keys.{inTurn};
+ghost use Rattle.report.specs.Layout.{keyPlace, detailsPlace, fieldsAt, twoAt};
+ghost use Rattle.report.specs.Format.{Told};
+ghost use Rattle.report.specs.Goods.{KeyGood, Sized};
+ghost use Rattle.report.specs.Checks.{allZero, textFieldAt, keyAt, keysFrom, detailsAt, detailsFrom, sizesOf, checked};
+use crate::fields::lent_key;
+use der::refusal::Reason;
+use der::refusal::Refusal;
+use parts::key::Registry;
+use std::cmp::Ordering;
+
+const MOST_REPORTED: usize = 240;
+
+fn all_zero(bytes: &[u8]) -> bool
+    ensures { λ r. ⌜ r ≡ allZero (now (bytes .entry)) ⌝ }
+{
+    for byte in bytes {
+        if *byte != 0 {
+            return false;
+        }
+    }
+    true
+}
+
+// A text field: its length byte, the text, zeros up to 65 bytes in all.
+fn check_text(file: &[u8], at: usize, least: u8) -> Result<(), Refusal>
+    requires { ⌜ at + 65 ≤ length (now file) ⌝ }
+    ensures { λ r. ⌜ r ≡ textFieldAt (now (file .entry)) at least ⌝ }
+{
+    let len = file[at];
+    if len < least || len > 64 {
+        return Err(Reason::TextSize.at(at));
+    }
+    if !all_zero(&file[at + 1 + len as usize..at + 65]) {
+        return Err(Reason::BadContent.at(at));
+    }
+    Ok(())
+}
+
+fn check_key(file: &[u8], at: usize) -> Result<(), Refusal>
+    requires { ⌜ at + 200 ≤ length (now file) ⌝ }
+    ensures { λ r. ⌜ r ≡ keyAt (now (file .entry)) at ⌝ }
+{
+    if Registry::of(file[at]).is_none() {
+        return Err(Reason::BadContent.at(at));
+    }
+    check_text(file, at + 5, 1)?;
+    check_text(file, at + 70, 1)?;
+    check_text(file, at + 135, 1)
+}
+
+fn check_details(file: &[u8], at: usize) -> Result<(), Refusal>
+    requires { ⌜ at + 66 ≤ length (now file) ⌝ }
+    ensures { λ r. ⌜ r ≡ detailsAt (now (file .entry)) at ⌝ }
+{
+    check_text(file, at, 0)?;
+    if file[at + 65] > 2 {
+        return Err(Reason::BadContent.at(at + 65));
+    }
+    Ok(())
+}
+
+fn two_at(file: &[u8], at: usize) -> usize
+    requires { ⌜ at + 1 < length (now file) ⌝ }
+    ensures { λ r. ⌜ r ≡ twoAt (now (file .entry)) at ⌝ }
+{
+    file[at] as usize * 256 + file[at + 1] as usize
+}
+
+// The number of keys, where the three sizes are right and the file is as long as they say.
+fn check_sizes(file: &[u8]) -> Result<usize, Refusal>
+    ensures is { λ r. ⌜ r ≡ sizesOf (now (file .entry)) ⌝ }
+    ensures sized { λ r. ⌜ Sized (length (now (file .entry))) r ⌝ }
+{
+    if file.len() < 2 {
+        return Err(Reason::CutShort.at(0));
+    }
+    let count = two_at(file, 0);
+    if count > MOST_REPORTED {
+        return Err(Reason::ListSize.at(0));
+    }
+    if file.len() < 4 {
+        return Err(Reason::CutShort.at(2));
+    }
+    if two_at(file, 2) != 200 {
+        return Err(Reason::BadContent.at(2));
+    }
+    if file.len() < 6 {
+        return Err(Reason::CutShort.at(4));
+    }
+    if two_at(file, 4) != 66 {
+        return Err(Reason::BadContent.at(4));
+    }
+    let size = 6 + 266 * count;
+    if file.len() < size {
+        return Err(Reason::CutShort.at(file.len()));
+    }
+    if file.len() > size {
+        return Err(Reason::BytesLeft.at(size));
+    }
+    Ok(count)
+}
+
+// Whether the key with a number above 0 is above the one before.
+fn rises(file: &[u8], i: usize) -> bool
+    requires within { ⌜ 0 < i ⌝ ∗ ⌜ i < 240 ⌝ ∗ ⌜ keyPlace i + 200 ≤ length (now file) ⌝ }
+    requires before { ⌜ KeyGood (now file) (keyPlace (i - 1)) ⌝ }
+    requires here { ⌜ KeyGood (now file) (keyPlace i) ⌝ }
+    ensures { λ r. ⌜ r ≡ isLt (inTurn (fieldsAt (now (file .entry)) (keyPlace (i - 1))) (fieldsAt (now (file .entry)) (keyPlace i))) ⌝ }
+{
+    let before = lent_key(file, 6 + 200 * (i - 1));
+    let here = lent_key(file, 6 + 200 * i);
+    match before.compare_lent(here) {
+        Ordering::Less => true,
+        _ => false,
+    }
+}
+
+fn check_keys(file: &[u8], count: usize) -> Result<(), Refusal>
+    requires { ⌜ count ≤ 240 ⌝ ∗ ⌜ keyPlace count ≤ length (now file) ⌝ }
+    ensures { λ r. ⌜ r ≡ keysFrom (now (file .entry)) 0 count ⌝ }
+{
+    for i in 0..count {
+        let at = 6 + 200 * i;
+        check_key(file, at)?;
+        if i > 0 && !rises(file, i) {
+            return Err(Reason::Repeated.at(at));
+        }
+    }
+    Ok(())
+}
+
+fn check_all_details(file: &[u8], count: usize) -> Result<(), Refusal>
+    requires { ⌜ count ≤ 240 ⌝ ∗ ⌜ detailsPlace count count ≤ length (now file) ⌝ }
+    ensures { λ r. ⌜ r ≡ detailsFrom (now (file .entry)) count 0 count ⌝ }
+{
+    for i in 0..count {
+        check_details(file, 6 + 200 * count + 66 * i)?;
+    }
+    Ok(())
+}
+
+// Whether the bytes are a probe report.
+pub fn check_report(file: &[u8]) -> Result<(), Refusal>
+    ensures is { λ r. ⌜ r ≡ checked (now (file .entry)) ⌝ }
+    ensures told { λ r. ⌜ Told (now (file .entry)) r ⌝ }
+{
+    check_parts(file)
+}
+
+fn check_parts(file: &[u8]) -> Result<(), Refusal>
+    ensures { λ r. ⌜ r ≡ checked (now (file .entry)) ⌝ }
+{
+    let count = check_sizes(file)?;
+    check_keys(file, count)?;
+    check_all_details(file, count)
+}

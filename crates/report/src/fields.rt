@@ -1,0 +1,55 @@
+// Keys and details where they stand in a report.
+ghost use mathlib.Core.Path.{_≡_};
+ghost use Prim.Native.Nat.{_+_, _≤_};
+ghost use lib.ListN.{length, getD};
+ghost use Rattle.parts.specs.Keys.{lentFields};
+ghost use Rattle.parts.proofs.Built.{Good, keyFrom, detailsFrom};
+ghost use Rattle.report.specs.Layout.{textAt, fieldsAt};
+use parts::details::Details;
+use parts::key::Key;
+use parts::key::LentKey;
+
+// The fields of a key that stands at `at`, where its text lengths are in bounds.
+pub(crate) fn lent_key(file: &[u8], at: usize) -> LentKey<'_>
+    requires { ⌜ at + 200 ≤ length (now file) ⌝ ∗ ⌜ getD (now file) (at + 5) 0 ≤ 64 ⌝ ∗ ⌜ getD (now file) (at + 70) 0 ≤ 64 ⌝ ∗ ⌜ getD (now file) (at + 135) 0 ≤ 64 ⌝ }
+    ensures { λ r. ⌜ lentFields r ≡ fieldsAt (now (file .entry)) at ⌝ }
+{
+    let maker = file[at + 5] as usize;
+    let model = file[at + 70] as usize;
+    let serial = file[at + 135] as usize;
+    LentKey {
+        registry: file[at],
+        class: &file[at + 1..at + 5],
+        maker: &file[at + 6..at + 6 + maker],
+        model: &file[at + 71..at + 71 + model],
+        serial: &file[at + 136..at + 136 + serial],
+    }
+}
+
+// The key at `at`, where its fields are those of a key.
+pub(crate) fn key_at(file: &[u8], at: usize) -> Key
+    requires within { ⌜ at + 200 ≤ length (now file) ⌝ }
+    requires sized { ⌜ getD (now file) (at + 5) 0 ≤ 64 ⌝ ∗ ⌜ getD (now file) (at + 70) 0 ≤ 64 ⌝ ∗ ⌜ getD (now file) (at + 135) 0 ≤ 64 ⌝ }
+    requires good { ⌜ Good (fieldsAt (now file) at) ⌝ }
+    ensures { λ r. ⌜ r ≡ keyFrom (fieldsAt (now (file .entry)) at) ⌝ }
+{
+    let lent = lent_key(file, at);
+    let class = [file[at + 1], file[at + 2], file[at + 3], file[at + 4]];
+    match Key::new(lent.registry, class, lent.maker, lent.model, lent.serial) {
+        Ok(key) => key,
+        Err(_) => unreachable(),
+    }
+}
+
+// The details at `at`, where their fields are in bounds.
+pub(crate) fn details_at(file: &[u8], at: usize) -> Details
+    requires within { ⌜ at + 66 ≤ length (now file) ⌝ }
+    requires sized { ⌜ getD (now file) at 0 ≤ 64 ⌝ ∗ ⌜ getD (now file) (at + 65) 0 ≤ 2 ⌝ }
+    ensures { λ r. ⌜ r ≡ detailsFrom (textAt (now (file .entry)) at) (getD (now (file .entry)) (at + 65) 0) ⌝ }
+{
+    let len = file[at] as usize;
+    match Details::new(&file[at + 1..at + 1 + len], file[at + 65]) {
+        Ok(details) => details,
+        Err(_) => unreachable(),
+    }
+}

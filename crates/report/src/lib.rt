@@ -1,0 +1,4 @@
+// Probe reports: what firmware says of the parts it saw.
+pub mod check;
+pub mod fields;
+pub mod report;
