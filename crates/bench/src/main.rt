@@ -39,7 +39,12 @@ fn run(rt: &LibcRuntime) -> Result<(), AnyError> {
     Ok(())
 }
 
-fn measure(rt: &LibcRuntime, file: &[u8], report: &Report<'_>, copy: &Report<'_>) -> io::Result<()> {
+fn measure(
+    rt: &LibcRuntime,
+    file: &[u8],
+    report: &Report<'_>,
+    copy: &Report<'_>,
+) -> io::Result<()> {
     let plain = time_plain(rt, file)?;
     println!(rt, "times of a plain loop over all bytes of the report:")?;
     print_ratio(rt, "check", time_check(rt, file)?, plain)?;
@@ -52,7 +57,12 @@ fn measure(rt: &LibcRuntime, file: &[u8], report: &Report<'_>, copy: &Report<'_>
     )?;
     print_ratio(rt, "count", time_count(rt, report)?, plain)?;
     print_ratio(rt, "walk, all parts", time_walk(rt, report)?, plain)?;
-    print_ratio(rt, "audit, against a copy", time_audit(rt, report, copy)?, plain)
+    print_ratio(
+        rt,
+        "audit, against a copy",
+        time_audit(rt, report, copy)?,
+        plain,
+    )
 }
 
 fn time_plain(rt: &LibcRuntime, file: &[u8]) -> io::Result<u128> {

@@ -10,12 +10,20 @@ ghost use Rattle.report.specs.Format.{Told};
 ghost use Rattle.report.specs.Goods.{KeyGood, Sized};
 ghost use Rattle.report.specs.Checks.{allZero, textFieldAt, keyAt, keysFrom, detailsAt, detailsFrom, sizesOf, checked};
 use crate::fields::lent_key;
+use crate::layout::DETAILS_SIZE;
+use crate::layout::KEY_SIZE;
+use crate::layout::MAKER;
+use crate::layout::MODEL;
+use crate::layout::MOST_REPORTED;
+use crate::layout::MOST_TEXT;
+use crate::layout::REPLACEABLE;
+use crate::layout::SERIAL;
+use crate::layout::SIZES;
+use crate::layout::TEXT_FIELD;
 use der::refusal::Reason;
 use der::refusal::Refusal;
 use parts::key::Registry;
 use std::cmp::Ordering;
-
-const MOST_REPORTED: usize = 240;
 
 fn all_zero(bytes: &[u8]) -> bool
     ensures { λ r. ⌜ r ≡ allZero (now (bytes .entry)) ⌝ }
@@ -28,16 +36,16 @@ fn all_zero(bytes: &[u8]) -> bool
     true
 }
 
-// A text field: its length byte, the text, zeros up to 65 bytes in all.
+// A text field: its length byte, the text, zeros up to its size.
 fn check_text(file: &[u8], at: usize, least: u8) -> Result<(), Refusal>
     requires { ⌜ at + 65 ≤ length (now file) ⌝ }
     ensures { λ r. ⌜ r ≡ textFieldAt (now (file .entry)) at least ⌝ }
 {
     let len = file[at];
-    if len < least || len > 64 {
+    if len < least || len > MOST_TEXT {
         return Err(Reason::TextSize.at(at));
     }
-    if !all_zero(&file[at + 1 + len as usize..at + 65]) {
+    if !all_zero(&file[at + 1 + len as usize..at + TEXT_FIELD]) {
         return Err(Reason::BadContent.at(at));
     }
     Ok(())
@@ -50,9 +58,9 @@ fn check_key(file: &[u8], at: usize) -> Result<(), Refusal>
     if Registry::of(file[at]).is_none() {
         return Err(Reason::BadContent.at(at));
     }
-    check_text(file, at + 5, 1)?;
-    check_text(file, at + 70, 1)?;
-    check_text(file, at + 135, 1)
+    check_text(file, at + MAKER, 1)?;
+    check_text(file, at + MODEL, 1)?;
+    check_text(file, at + SERIAL, 1)
 }
 
 fn check_details(file: &[u8], at: usize) -> Result<(), Refusal>
@@ -60,8 +68,8 @@ fn check_details(file: &[u8], at: usize) -> Result<(), Refusal>
     ensures { λ r. ⌜ r ≡ detailsAt (now (file .entry)) at ⌝ }
 {
     check_text(file, at, 0)?;
-    if file[at + 65] > 2 {
-        return Err(Reason::BadContent.at(at + 65));
+    if file[at + REPLACEABLE] > 2 {
+        return Err(Reason::BadContent.at(at + REPLACEABLE));
     }
     Ok(())
 }
@@ -88,16 +96,16 @@ fn check_sizes(file: &[u8]) -> Result<usize, Refusal>
     if file.len() < 4 {
         return Err(Reason::CutShort.at(2));
     }
-    if two_at(file, 2) != 200 {
+    if two_at(file, 2) != KEY_SIZE {
         return Err(Reason::BadContent.at(2));
     }
-    if file.len() < 6 {
+    if file.len() < SIZES {
         return Err(Reason::CutShort.at(4));
     }
-    if two_at(file, 4) != 66 {
+    if two_at(file, 4) != DETAILS_SIZE {
         return Err(Reason::BadContent.at(4));
     }
-    let size = 6 + 266 * count;
+    let size = SIZES + (KEY_SIZE + DETAILS_SIZE) * count;
     if file.len() < size {
         return Err(Reason::CutShort.at(file.len()));
     }
@@ -114,8 +122,8 @@ fn rises(file: &[u8], i: usize) -> bool
     requires here { ⌜ KeyGood (now file) (keyPlace i) ⌝ }
     ensures { λ r. ⌜ r ≡ isLt (inTurn (fieldsAt (now (file .entry)) (keyPlace (i - 1))) (fieldsAt (now (file .entry)) (keyPlace i))) ⌝ }
 {
-    let before = lent_key(file, 6 + 200 * (i - 1));
-    let here = lent_key(file, 6 + 200 * i);
+    let before = lent_key(file, SIZES + KEY_SIZE * (i - 1));
+    let here = lent_key(file, SIZES + KEY_SIZE * i);
     match before.compare_lent(here) {
         Ordering::Less => true,
         _ => false,
@@ -127,7 +135,7 @@ fn check_keys(file: &[u8], count: usize) -> Result<(), Refusal>
     ensures { λ r. ⌜ r ≡ keysFrom (now (file .entry)) 0 count ⌝ }
 {
     for i in 0..count {
-        let at = 6 + 200 * i;
+        let at = SIZES + KEY_SIZE * i;
         check_key(file, at)?;
         if i > 0 && !rises(file, i) {
             return Err(Reason::Repeated.at(at));
@@ -141,7 +149,7 @@ fn check_all_details(file: &[u8], count: usize) -> Result<(), Refusal>
     ensures { λ r. ⌜ r ≡ detailsFrom (now (file .entry)) count 0 count ⌝ }
 {
     for i in 0..count {
-        check_details(file, 6 + 200 * count + 66 * i)?;
+        check_details(file, SIZES + KEY_SIZE * count + DETAILS_SIZE * i)?;
     }
     Ok(())
 }

@@ -5,6 +5,10 @@ ghost use lib.ListN.{length, getD};
 ghost use Rattle.parts.specs.Keys.{lentFields};
 ghost use Rattle.parts.proofs.Built.{Good, keyFrom, detailsFrom};
 ghost use Rattle.report.specs.Layout.{textAt, fieldsAt};
+use crate::layout::MAKER;
+use crate::layout::MODEL;
+use crate::layout::REPLACEABLE;
+use crate::layout::SERIAL;
 use parts::details::Details;
 use parts::key::Key;
 use parts::key::LentKey;
@@ -14,12 +18,12 @@ pub(crate) fn lent_key(file: &[u8], at: usize) -> LentKey<'_>
     requires { ⌜ at + 200 ≤ length (now file) ⌝ ∗ ⌜ getD (now file) (at + 5) 0 ≤ 64 ⌝ ∗ ⌜ getD (now file) (at + 70) 0 ≤ 64 ⌝ ∗ ⌜ getD (now file) (at + 135) 0 ≤ 64 ⌝ }
     ensures { λ r. ⌜ lentFields r ≡ fieldsAt (now (file .entry)) at ⌝ }
 {
-    let maker = file[at + 5] as usize;
-    let model = file[at + 70] as usize;
-    let serial = file[at + 135] as usize;
+    let maker = file[at + MAKER] as usize;
+    let model = file[at + MODEL] as usize;
+    let serial = file[at + SERIAL] as usize;
     LentKey {
         registry: file[at],
-        class: &file[at + 1..at + 5],
+        class: &file[at + 1..at + MAKER],
         maker: &file[at + 6..at + 6 + maker],
         model: &file[at + 71..at + 71 + model],
         serial: &file[at + 136..at + 136 + serial],
@@ -48,7 +52,7 @@ pub(crate) fn details_at(file: &[u8], at: usize) -> Details
     ensures { λ r. ⌜ r ≡ detailsFrom (textAt (now (file .entry)) at) (getD (now (file .entry)) (at + 65) 0) ⌝ }
 {
     let len = file[at] as usize;
-    match Details::new(&file[at + 1..at + 1 + len], file[at + 65]) {
+    match Details::new(&file[at + 1..at + 1 + len], file[at + REPLACEABLE]) {
         Ok(details) => details,
         Err(_) => unreachable(),
     }

@@ -17,6 +17,9 @@ ghost use Rattle.model.proofs.Rises.{rises-told};
 use crate::fields::details_at;
 use crate::fields::key_at;
 use crate::fields::lent_key;
+use crate::layout::DETAILS_SIZE;
+use crate::layout::KEY_SIZE;
+use crate::layout::SIZES;
 use model::part::Part;
 use parts::details::Details;
 use parts::inventory::Inventory;
@@ -52,8 +55,11 @@ fn part_of(report: &Report<'_>, i: usize) -> Part<Key, Details>
     ensures { λ r. ⌜ r ≡ partAt (held (now (report .entry) .file)) (now (report .entry) .keys) i ⌝ }
 {
     Part {
-        key: key_at(report.file, 6 + 200 * i),
-        details: details_at(report.file, 6 + 200 * report.keys + 66 * i),
+        key: key_at(report.file, SIZES + KEY_SIZE * i),
+        details: details_at(
+            report.file,
+            SIZES + KEY_SIZE * report.keys + DETAILS_SIZE * i,
+        ),
     }
 }
 
@@ -68,7 +74,7 @@ pub impl Inventory for Report<'_> as ReportInventory {
 
     fn find(&self, key: &Key) -> Option<Details> {
         for i in 0..self.keys {
-            if let Ordering::Equal = key.against(lent_key(self.file, 6 + 200 * i)) {
+            if let Ordering::Equal = key.against(lent_key(self.file, SIZES + KEY_SIZE * i)) {
                 return Some(part_of(self, i).details);
             }
         }
@@ -80,8 +86,9 @@ pub impl Inventory for Report<'_> as ReportInventory {
             let Some(key) = above else {
                 return Some(part_of(self, i));
             };
-            if let Ordering::Less = key.against(lent_key(self.file, 6 + 200 * i)) {
-                return Some(part_of(self, i));
+            if let Ordering::Less = key.against(lent_key(self.file, SIZES + KEY_SIZE * i)) {
+                let part = part_of(self, i);
+                return Some(part);
             }
         }
         None

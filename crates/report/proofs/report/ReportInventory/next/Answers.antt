@@ -37,7 +37,7 @@ returns-in-Less c =
     let p : Part Key Details = partAt (x .file .now) (x .keys) i in
     let less : order k (p .key) ≡ Less = sym (order-at k _ (e .good)) ∙ (ap (inTurn (fieldsOf k)) (sym (c .lent-key .ensures)) ∙ sym (c .in-Less .ensures tt)) in
     let told : Part Key Details → Option (Part Key Details) = λ q. Some q in
-    ap told (c .part-of-in-Less .ensures) ∙ above-here order (mapped now (c .args .above)) k (ap (mapped now) (c .in-Some .is)) (partsIn (x .file .now)) i p (parts-at (x .file .now) (x .keys) i (x .counted) (omega arith)) less (c .loop-i .inv)
+    ap told (c .part-of-part .ensures) ∙ above-here order (mapped now (c .args .above)) k (ap (mapped now) (c .in-Some .is)) (partsIn (x .file .now)) i p (parts-at (x .file .now) (x .keys) i (x .counted) (omega arith)) less (c .loop-i .inv)
 
 pub loop-i-again : need.loop-i-again
 loop-i-again c =
