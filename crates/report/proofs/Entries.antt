@@ -15,7 +15,7 @@ use Rattle.parts.specs.declared.key.Key.{Key}
 use Rattle.parts.specs.Keys.{Fields, fieldsOf, inTurn, order}
 use Rattle.parts.proofs.Built.{Good, keyFrom, key-from}
 use Rattle.report.specs.Layout.{keyPlace, detailsPlace, twoAt, fieldsAt}
-use Rattle.report.specs.Goods.{KeyGood}
+use Rattle.report.specs.WellFormed.{KeyGood}
 use Rattle.report.specs.Checks.{keyAt, keysFrom, detailsAt, detailsFrom, checked}
 use Rattle.report.specs.Meaning.{partAt, partsFrom, partsIn}
 use Rattle.report.proofs.Steps.{then-ok, key-good, text-good}

@@ -24,7 +24,7 @@ use Rattle.parts.specs.Bounds.{content}
 use Rattle.parts.specs.Details.{replaceableOf}
 use Rattle.parts.proofs.Built.{Good, keyFrom, key-from, boundedOr, bounded-or, none, knownOr}
 use Rattle.report.specs.Layout.{keyPlace, detailsPlace, textAt, fieldsAt}
-use Rattle.report.specs.Goods.{Text, KeyGood}
+use Rattle.report.specs.WellFormed.{Text, KeyGood}
 use Rattle.report.specs.Checks.{allZero, textFieldAt, keyAt, risesAt, keysFrom, detailsAt, detailsFrom as detailsChecked}
 use Rattle.report.specs.Meaning.{partAt, partsFrom}
 use Rattle.report.specs.Format.{textBytes, fieldBytes, keyBytes, replaceableNumber, detailsBytes}

@@ -19,7 +19,7 @@ use Rattle.der.specs.declared.refusal.Reason.{Reason}
 use Rattle.der.specs.declared.refusal.Reason.the-variants.{Repeated}
 use Rattle.parts.specs.Keys.{registryOf, inTurn}
 use Rattle.report.specs.Layout.{keyPlace, detailsPlace, fieldsAt}
-use Rattle.report.specs.Goods.{Text, KeyGood}
+use Rattle.report.specs.WellFormed.{Text, KeyGood}
 use Rattle.report.specs.Checks.{allZero, textFieldAt, keyAt, risesAt, keysFrom, detailsAt, detailsFrom}
 
 pub zero-more : (x : ℕ) (xs : List ℕ) → x ≡ 0 → allZero (x ∷ xs) ≡ allZero xs

@@ -13,27 +13,27 @@ use Rattle.der.specs.Numbers.{part}
 use Rattle.der.specs.declared.refusal.Refusal.{Refusal}
 use Rattle.der.specs.declared.refusal.Reason.the-variants.{CutShort, BytesLeft, BadContent, TextSize, ListSize, Repeated}
 use Rattle.parts.specs.Keys.{registryOf, inTurn}
-use Rattle.report.specs.Layout.{mostReported, keyPlace, detailsPlace, reportSize, twoAt, fieldsAt}
+use Rattle.report.specs.Layout.{mostReported, sizes, keySize, detailsSize, makerPlace, modelPlace, serialPlace, replaceablePlace, mostText, textField, keyPlace, detailsPlace, reportSize, twoAt, fieldsAt}
 
 -- every byte is zero
 abbrev pub allZero : List ℕ → Bool
 allZero [] = true
 allZero (x ∷ xs) = eqb x 0 && allZero xs
 
--- the text field at `at`: a length byte of at least `least` and at most 64, and zeros behind the text
+-- the text field at `at`: a length byte of at least `least` and at most `mostText`, and zeros behind the text
 abbrev pub textFieldAt : List ℕ → ℕ → ℕ → Result (Unit {0}) Refusal
 textFieldAt file at least =
-    cond (leb least (getD file at 0) && leb (getD file at 0) 64)
-    (cond (allZero (part file (at + 1 + getD file at 0) (at + 65))) (Ok tt) (refused BadContent at))
+    cond (leb least (getD file at 0) && leb (getD file at 0) mostText)
+    (cond (allZero (part file (at + 1 + getD file at 0) (at + textField))) (Ok tt) (refused BadContent at))
     (refused TextSize at)
 
 -- the key at `at`, field by field
 abbrev pub keyAt : List ℕ → ℕ → Result (Unit {0}) Refusal
 keyAt file at =
     cond (isSome (registryOf (getD file at 0)))
-    (then (textFieldAt file (at + 5) 1) (λ _.
-    then (textFieldAt file (at + 70) 1) (λ _.
-    textFieldAt file (at + 135) 1)))
+    (then (textFieldAt file (at + makerPlace) 1) (λ _.
+    then (textFieldAt file (at + modelPlace) 1) (λ _.
+    textFieldAt file (at + serialPlace) 1)))
     (refused BadContent at)
 
 -- the key with a number is the first, or above the one before
@@ -51,7 +51,7 @@ keysFrom file i (suc left) =
 abbrev pub detailsAt : List ℕ → ℕ → Result (Unit {0}) Refusal
 detailsAt file at =
     then (textFieldAt file at 0) (λ _.
-    cond (leb (getD file (at + 65) 0) 2) (Ok tt) (refused BadContent (at + 65)))
+    cond (leb (getD file (at + replaceablePlace) 0) 2) (Ok tt) (refused BadContent (at + replaceablePlace)))
 
 -- so many details, from the one with a number on, behind n keys
 abbrev pub detailsFrom : List ℕ → ℕ → ℕ → ℕ → Result (Unit {0}) Refusal
@@ -64,9 +64,9 @@ sizesOf file =
     cond (ltb (length file) 2) (refused CutShort 0)
     (cond (ltb mostReported (twoAt file 0)) (refused ListSize 0)
     (cond (ltb (length file) 4) (refused CutShort 2)
-    (cond (eqb (twoAt file 2) 200)
-    (cond (ltb (length file) 6) (refused CutShort 4)
-    (cond (eqb (twoAt file 4) 66)
+    (cond (eqb (twoAt file 2) keySize)
+    (cond (ltb (length file) sizes) (refused CutShort 4)
+    (cond (eqb (twoAt file 4) detailsSize)
     (cond (ltb (length file) (reportSize (twoAt file 0))) (refused CutShort (length file))
     (cond (ltb (reportSize (twoAt file 0)) (length file)) (refused BytesLeft (reportSize (twoAt file 0)))
     (Ok (twoAt file 0))))

@@ -16,15 +16,15 @@ use Rattle.parts.specs.declared.key.Key.{Key}
 use Rattle.parts.specs.declared.details.Details.{Details}
 use Rattle.parts.specs.Bounds.{content}
 use Rattle.parts.specs.Keys.{Fields, fieldsOf, order}
-use Rattle.report.specs.Layout.{mostReported}
+use Rattle.report.specs.Layout.{mostReported, keySize, detailsSize, mostText}
 
 -- a number in two bytes, high byte first
 abbrev pub twoBytes : ℕ → List ℕ
 twoBytes n = n / 256 ∷ n % 256 ∷ []
 
--- a text: its length, its bytes, zeros up to 64
+-- a text: its length, its bytes, zeros up to the most bytes of a text
 abbrev pub textBytes : List ℕ → List ℕ
-textBytes xs = length xs ∷ (xs ++ replicate (64 - length xs) 0)
+textBytes xs = length xs ∷ (xs ++ replicate (mostText - length xs) 0)
 
 -- a key by its fields
 abbrev pub fieldBytes : Fields → List ℕ
@@ -46,7 +46,7 @@ detailsBytes p = textBytes (content (p .details .revision)) ++ (replaceableNumbe
 
 -- a report: three sizes, the keys, the details
 abbrev pub reportBytes : List (Part Key Details) → List ℕ
-reportBytes ps = twoBytes (length ps) ++ (twoBytes 200 ++ (twoBytes 66 ++ (joined keyBytes ps ++ joined detailsBytes ps)))
+reportBytes ps = twoBytes (length ps) ++ (twoBytes keySize ++ (twoBytes detailsSize ++ (joined keyBytes ps ++ joined detailsBytes ps)))
 
 -- the file is the report of these parts, which rise by key and are not too many
 pub record Reports (file : List ℕ) (ps : List (Part Key Details)) : Type 0 where

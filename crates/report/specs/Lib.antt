@@ -1,5 +1,5 @@
 pub mod Layout
 pub mod Format
 pub mod Checks
-pub mod Goods
+pub mod WellFormed
 pub mod Meaning

@@ -6,13 +6,13 @@ use Rattle.model.specs.declared.part.Part.{Part}
 use Rattle.parts.specs.declared.key.Key.{Key}
 use Rattle.parts.specs.declared.details.Details.{Details}
 use Rattle.parts.proofs.Built.{keyFrom, detailsFrom}
-use Rattle.report.specs.Layout.{keyPlace, detailsPlace, twoAt, textAt, fieldsAt}
+use Rattle.report.specs.Layout.{replaceablePlace, keyPlace, detailsPlace, twoAt, textAt, fieldsAt}
 
 -- the part with a number from 0, of n
 abbrev pub partAt : List ℕ → ℕ → ℕ → Part Key Details
 partAt file n i = record {
   key = keyFrom (fieldsAt file (keyPlace i));
-  details = detailsFrom (textAt file (detailsPlace n i)) (getD file (detailsPlace n i + 65) 0);
+  details = detailsFrom (textAt file (detailsPlace n i)) (getD file (detailsPlace n i + replaceablePlace) 0);
 }
 
 -- so many parts, from the one with a number on

@@ -7,7 +7,7 @@ ghost use Rattle.std.specs.Orderings.{isLt};
 ghost use Rattle.parts.specs.Keys.{inTurn};
 ghost use Rattle.report.specs.Layout.{keyPlace, detailsPlace, fieldsAt, twoAt};
 ghost use Rattle.report.specs.Format.{Told};
-ghost use Rattle.report.specs.Goods.{KeyGood, Sized};
+ghost use Rattle.report.specs.WellFormed.{KeyGood, Sized};
 ghost use Rattle.report.specs.Checks.{allZero, textFieldAt, keyAt, keysFrom, detailsAt, detailsFrom, sizesOf, checked};
 use crate::fields::lent_key;
 use crate::layout::DETAILS_SIZE;
