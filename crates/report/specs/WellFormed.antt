@@ -1,4 +1,4 @@
--- What good fields have.
+-- What well formed fields have: the premises of the functions that read them.
 use mathlib.Core.Path.{_≡_}
 use mathlib.Core.Bool.{true}
 use mathlib.Core.List.{List}
