@@ -5,7 +5,7 @@ ghost use lib.ListN.{length, getD};
 ghost use Rattle.std.specs.declared.result.Result.the-variants.{Ok};
 ghost use Rattle.std.specs.Orderings.{isLt};
 ghost use Rattle.parts.specs.Keys.{inTurn};
-ghost use Rattle.report.specs.Layout.{keyPlace, detailsPlace, fieldsAt, twoAt};
+ghost use Rattle.report.specs.Layout.{keyPlace, detailsPlace, fieldsAt, twoAt, detailsSize, keySize, mostReported, textField};
 ghost use Rattle.report.specs.Format.{Told};
 ghost use Rattle.report.specs.WellFormed.{KeyGood, Sized};
 ghost use Rattle.report.specs.Checks.{allZero, textFieldAt, keyAt, keysFrom, detailsAt, detailsFrom, sizesOf, checked};
@@ -38,7 +38,7 @@ fn all_zero(bytes: &[u8]) -> bool
 
 // A text field: its length byte, the text, zeros up to its size.
 fn check_text(file: &[u8], at: usize, least: u8) -> Result<(), Refusal>
-    requires { ⌜ at + 65 ≤ length (now file) ⌝ }
+    requires { ⌜ at + textField ≤ length (now file) ⌝ }
     ensures { λ r. ⌜ r ≡ textFieldAt (now (file .entry)) at least ⌝ }
 {
     let len = file[at];
@@ -52,7 +52,7 @@ fn check_text(file: &[u8], at: usize, least: u8) -> Result<(), Refusal>
 }
 
 fn check_key(file: &[u8], at: usize) -> Result<(), Refusal>
-    requires { ⌜ at + 200 ≤ length (now file) ⌝ }
+    requires { ⌜ at + keySize ≤ length (now file) ⌝ }
     ensures { λ r. ⌜ r ≡ keyAt (now (file .entry)) at ⌝ }
 {
     if Registry::of(file[at]).is_none() {
@@ -64,7 +64,7 @@ fn check_key(file: &[u8], at: usize) -> Result<(), Refusal>
 }
 
 fn check_details(file: &[u8], at: usize) -> Result<(), Refusal>
-    requires { ⌜ at + 66 ≤ length (now file) ⌝ }
+    requires { ⌜ at + detailsSize ≤ length (now file) ⌝ }
     ensures { λ r. ⌜ r ≡ detailsAt (now (file .entry)) at ⌝ }
 {
     check_text(file, at, 0)?;
@@ -117,7 +117,7 @@ fn check_sizes(file: &[u8]) -> Result<usize, Refusal>
 
 // Whether the key with a number above 0 is above the one before.
 fn rises(file: &[u8], i: usize) -> bool
-    requires within { ⌜ 0 < i ⌝ ∗ ⌜ i < 240 ⌝ ∗ ⌜ keyPlace i + 200 ≤ length (now file) ⌝ }
+    requires within { ⌜ 0 < i ⌝ ∗ ⌜ i < mostReported ⌝ ∗ ⌜ keyPlace i + keySize ≤ length (now file) ⌝ }
     requires before { ⌜ KeyGood (now file) (keyPlace (i - 1)) ⌝ }
     requires here { ⌜ KeyGood (now file) (keyPlace i) ⌝ }
     ensures { λ r. ⌜ r ≡ isLt (inTurn (fieldsAt (now (file .entry)) (keyPlace (i - 1))) (fieldsAt (now (file .entry)) (keyPlace i))) ⌝ }
@@ -131,7 +131,7 @@ fn rises(file: &[u8], i: usize) -> bool
 }
 
 fn check_keys(file: &[u8], count: usize) -> Result<(), Refusal>
-    requires { ⌜ count ≤ 240 ⌝ ∗ ⌜ keyPlace count ≤ length (now file) ⌝ }
+    requires { ⌜ count ≤ mostReported ⌝ ∗ ⌜ keyPlace count ≤ length (now file) ⌝ }
     ensures { λ r. ⌜ r ≡ keysFrom (now (file .entry)) 0 count ⌝ }
 {
     for i in 0..count {
@@ -145,7 +145,7 @@ fn check_keys(file: &[u8], count: usize) -> Result<(), Refusal>
 }
 
 fn check_all_details(file: &[u8], count: usize) -> Result<(), Refusal>
-    requires { ⌜ count ≤ 240 ⌝ ∗ ⌜ detailsPlace count count ≤ length (now file) ⌝ }
+    requires { ⌜ count ≤ mostReported ⌝ ∗ ⌜ detailsPlace count count ≤ length (now file) ⌝ }
     ensures { λ r. ⌜ r ≡ detailsFrom (now (file .entry)) count 0 count ⌝ }
 {
     for i in 0..count {

@@ -4,7 +4,7 @@ ghost use Prim.Native.Nat.{_+_, _≤_};
 ghost use lib.ListN.{length, getD};
 ghost use Rattle.parts.specs.Keys.{lentFields};
 ghost use Rattle.parts.proofs.Built.{Good, keyFrom, detailsFrom};
-ghost use Rattle.report.specs.Layout.{textAt, fieldsAt};
+ghost use Rattle.report.specs.Layout.{textAt, fieldsAt, detailsSize, keySize, makerPlace, modelPlace, mostText, replaceablePlace, serialPlace};
 use crate::layout::MAKER;
 use crate::layout::MODEL;
 use crate::layout::REPLACEABLE;
@@ -15,7 +15,7 @@ use parts::key::LentKey;
 
 // The fields of a key that stands at `at`, where its text lengths are in bounds.
 pub(crate) fn lent_key(file: &[u8], at: usize) -> LentKey<'_>
-    requires { ⌜ at + 200 ≤ length (now file) ⌝ ∗ ⌜ getD (now file) (at + 5) 0 ≤ 64 ⌝ ∗ ⌜ getD (now file) (at + 70) 0 ≤ 64 ⌝ ∗ ⌜ getD (now file) (at + 135) 0 ≤ 64 ⌝ }
+    requires { ⌜ at + keySize ≤ length (now file) ⌝ ∗ ⌜ getD (now file) (at + makerPlace) 0 ≤ mostText ⌝ ∗ ⌜ getD (now file) (at + modelPlace) 0 ≤ mostText ⌝ ∗ ⌜ getD (now file) (at + serialPlace) 0 ≤ mostText ⌝ }
     ensures { λ r. ⌜ lentFields r ≡ fieldsAt (now (file .entry)) at ⌝ }
 {
     let maker = file[at + MAKER] as usize;
@@ -32,8 +32,8 @@ pub(crate) fn lent_key(file: &[u8], at: usize) -> LentKey<'_>
 
 // The key at `at`, where its fields are those of a key.
 pub(crate) fn key_at(file: &[u8], at: usize) -> Key
-    requires within { ⌜ at + 200 ≤ length (now file) ⌝ }
-    requires sized { ⌜ getD (now file) (at + 5) 0 ≤ 64 ⌝ ∗ ⌜ getD (now file) (at + 70) 0 ≤ 64 ⌝ ∗ ⌜ getD (now file) (at + 135) 0 ≤ 64 ⌝ }
+    requires within { ⌜ at + keySize ≤ length (now file) ⌝ }
+    requires sized { ⌜ getD (now file) (at + makerPlace) 0 ≤ mostText ⌝ ∗ ⌜ getD (now file) (at + modelPlace) 0 ≤ mostText ⌝ ∗ ⌜ getD (now file) (at + serialPlace) 0 ≤ mostText ⌝ }
     requires good { ⌜ Good (fieldsAt (now file) at) ⌝ }
     ensures { λ r. ⌜ r ≡ keyFrom (fieldsAt (now (file .entry)) at) ⌝ }
 {
@@ -47,9 +47,9 @@ pub(crate) fn key_at(file: &[u8], at: usize) -> Key
 
 // The details at `at`, where their fields are in bounds.
 pub(crate) fn details_at(file: &[u8], at: usize) -> Details
-    requires within { ⌜ at + 66 ≤ length (now file) ⌝ }
-    requires sized { ⌜ getD (now file) at 0 ≤ 64 ⌝ ∗ ⌜ getD (now file) (at + 65) 0 ≤ 2 ⌝ }
-    ensures { λ r. ⌜ r ≡ detailsFrom (textAt (now (file .entry)) at) (getD (now (file .entry)) (at + 65) 0) ⌝ }
+    requires within { ⌜ at + detailsSize ≤ length (now file) ⌝ }
+    requires sized { ⌜ getD (now file) at 0 ≤ mostText ⌝ ∗ ⌜ getD (now file) (at + replaceablePlace) 0 ≤ 2 ⌝ }
+    ensures { λ r. ⌜ r ≡ detailsFrom (textAt (now (file .entry)) at) (getD (now (file .entry)) (at + replaceablePlace) 0) ⌝ }
 {
     let len = file[at] as usize;
     match Details::new(&file[at + 1..at + 1 + len], file[at + REPLACEABLE]) {

@@ -21,7 +21,7 @@ fn words_of(reason: Reason) -> &'static str {
         Reason::BadContent => "the content breaks its rule",
         Reason::TextSize => "the text or name is too short or too long",
         Reason::ListSize => "the list is empty or too long",
-        Reason::Repeated => "the identifier or key stands there twice",
+        Reason::Repeated => "an identifier or key stands there twice, or the keys do not rise",
         Reason::EntryMissing => "a required entry is missing",
         Reason::CriticalMark => "the extension may not be critical",
         Reason::AlgorithmsDiffer => "the two algorithms differ",
