@@ -201,4 +201,5 @@ def main():
         handle.write("\n".join(lines) + "\n")
 
 
-main()
+if __name__ == "__main__":
+    main()

@@ -1,9 +1,7 @@
 #!/usr/bin/env python3
 """Prints the tree of a DER file's elements as OpenSSL sees it, in the format of `rosuklam elements`.
 
-The expected output of the gate's run is made by it, and so comes from another reader than ours:
-
-    tools/tree_by_openssl.py crates/rosuklam/data/issuer.der > crates/rosuklam/stdout
+    tools/tree_by_openssl.py crates/rosuklam/data/issuer.der
 
 Offsets, depths and lengths are OpenSSL's; the tag byte is the byte of the file at the offset.
 """
@@ -14,10 +12,8 @@ import sys
 ROW = re.compile(r"\s*(\d+):d=(\d+)\s+hl=(\d+)\s+l=\s*(\d+)\s")
 
 
-def main():
-    if len(sys.argv) != 2:
-        sys.exit("usage: tree_by_openssl.py FILE")
-    path = sys.argv[1]
+def tree(path):
+    """The lines of the tree."""
     with open(path, "rb") as handle:
         data = handle.read()
     parsed = subprocess.run(
@@ -28,7 +24,15 @@ def main():
         if not row:
             sys.exit(f"a line that is not understood: {line}")
         offset, depth, _, length = map(int, row.groups())
-        print(f"{'  ' * depth}{offset} {data[offset]:02X} {length}")
+        yield f"{'  ' * depth}{offset} {data[offset]:02X} {length}"
 
 
-main()
+def main():
+    if len(sys.argv) != 2:
+        sys.exit("usage: tree_by_openssl.py FILE")
+    for line in tree(sys.argv[1]):
+        print(line)
+
+
+if __name__ == "__main__":
+    main()

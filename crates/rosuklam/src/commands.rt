@@ -25,14 +25,45 @@ pub fn run(rt: &LibcRuntime) -> io::Result<Outcome> {
         return usage(rt, "no command is given");
     };
     match command.as_str() {
+        "batch" => batch(rt, &args),
+        other => answer(rt, other, &args),
+    }
+}
+
+// Runs the commands that a file has, one to a line. Their failures are part of what is printed.
+fn batch(rt: &LibcRuntime, args: &[String]) -> io::Result<Outcome> {
+    let [_, path] = args else {
+        return usage(rt, "'batch' takes one file");
+    };
+    let text = match fs::read_to_string(rt, path.as_str()) {
+        Ok(text) => text,
+        Err(error) => return unreadable(rt, path.as_str(), error),
+    };
+    for line in text.as_str().lines() {
+        println!(rt, "> {line}")?;
+        let mut words = Vec::new(rt.alloc());
+        for word in line.split(' ') {
+            words.push(String::from_str(rt.alloc(), word)?)?;
+        }
+        let command = line.split(' ').next().unwrap_or("");
+        match answer(rt, command, &words)? {
+            Outcome::Done => {}
+            Outcome::Failed => println!(rt, "status 1")?,
+        }
+    }
+    Ok(Outcome::Done)
+}
+
+fn answer(rt: &LibcRuntime, command: &str, args: &[String]) -> io::Result<Outcome> {
+    match command {
         "--help" | "-h" | "help" => {
             rt.print(HELP)?;
             Ok(Outcome::Done)
         }
-        "elements" => elements(rt, &args),
-        "element" => element(rt, &args),
-        "report" => report(rt, &args),
-        "audit" => audit(rt, &args),
+        "elements" => elements(rt, args),
+        "element" => element(rt, args),
+        "report" => report(rt, args),
+        "audit" => audit(rt, args),
         other => {
             eprintln!(
                 rt,

@@ -24,6 +24,11 @@ Usage: rosuklam COMMAND ...
                           tcg:00030003:Acme:Reader-7:SN%2F1 | revision=B2 replaceable=yes | none
                           end
 
+  batch FILE            Runs the commands in the file, one to a line with single spaces
+                        between words. Prints each behind '> ', then what it prints,
+                        then 'status 1' where it ends so. Its own status is then 0.
+                          rosuklam batch commands
+
   --help                Prints this text.
 
 Offsets and lengths are decimal, tags hexadecimal. 'content A to B' says that the

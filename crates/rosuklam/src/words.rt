@@ -14,7 +14,8 @@ pub fn print_refusal(rt: &LibcRuntime, refusal: Refusal) -> io::Result<()> {
 fn words_of(reason: Reason) -> &'static str {
     match reason {
         Reason::FileTooLong => "the file is too long",
-        Reason::CutShort => "length bytes are missing, or the content does not end where it must",
+        Reason::CutShort =>
+            "cut short: bytes are missing, or the content goes past the end of what holds it",
         Reason::LengthForm => "the length is in no form taken here, or a shorter form would do",
         Reason::WrongTag => "another tag than wanted, or nothing there",
         Reason::BytesLeft => "bytes are left over",
