@@ -1,6 +1,8 @@
 // How long the questions take on a probe report, beside a plain loop over the same bytes, and how long the reading of a
 // platform certificate takes. Without a file it measures nothing: figures differ from run to run, and the gate compares
 // what programs print.
+#![tactic(auto)]
+
 mod certificate_read;
 
 use anyhow::anyhow;

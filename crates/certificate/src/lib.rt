@@ -1,4 +1,6 @@
 // Platform and delta certificates: the check, the certificate in lent bytes, read and vouched.
+#![tactic(auto)]
+
 pub mod bottom;
 pub mod check;
 pub mod delta;

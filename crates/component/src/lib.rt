@@ -1,4 +1,6 @@
 // The configuration of a certificate: its components, where they stand in the file and what they mean.
+#![tactic(auto)]
+
 pub mod component;
 pub mod configuration;
 pub mod key;

@@ -1,5 +1,7 @@
 // The conformance run: reads each file that data/ has, by the call of its kind, and prints the answer. What it must print
 // was worked out by another reader.
+#![tactic(auto)]
+
 use anyhow::anyhow;
 use der::refusal::Refusal;
 use model::part::Part;

@@ -1,5 +1,5 @@
 -- Bytes, and the numbers they stand for.
-use Rattle.std.specs.Prelude.{ℕ, ◌+◌, ◌-◌, ◌*◌, ◌<◌, List, fold, slice_index, slice_range}
+use Rattle.std.specs.Prelude.{ℕ, ◌+◌, ◌*◌, ◌<◌, List, fold, slice_index, slice_range}
 
 -- the elements of a list are bytes
 abbrev pub Bytes : List ℕ → Type 0

@@ -1,4 +1,6 @@
 // The envelope of a certificate: everything but its components.
+#![tactic(auto)]
+
 pub mod algorithm;
 pub mod attributes;
 pub mod entry;

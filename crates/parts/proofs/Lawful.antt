@@ -2,7 +2,7 @@
 use Rattle.std.proofs.Common.{◌≡◌, ℕ, ◌<◌, List, [], ◌∷◌, ◌++◌, length, Some, Option, Ordering, Less, Equal, Greater, sym, refl, ap, ◌∙◌, subst, arith}
 use native.Mathlib.Nat.{ℕ_set}
 use mathlib.Core.HLevel.{is_prop→PathP}
-use Rattle.std.specs.Cmp.{ranks, means, below_irrefl, below_chain, nat_cmp_total}
+use Rattle.std.specs.Cmp.{ranks, means, below_irrefl, below_chain, nat_cmp_total, nat_cmp_is}
 use Rattle.std.specs.Cmp.Lexicographic.{slice_cmp, lists_total}
 use Rattle.std.specs.Ordering.{ordering_then, ordering_reverse, nat_cmp}
 use Rattle.model.specs.Orders.{Lawful}
@@ -148,7 +148,7 @@ begins [] ys y = refl
 begins (x ∷ xs) ys y = rw (self nat_cmp rank_lawful x) (begins xs ys y)
 
 differs : (p xs ys : List ℕ) (x y : ℕ) → x < y → lexed (p ++ x ∷ xs) (p ++ y ∷ ys) ≡ Less
-differs [] xs ys x y h = ap (λ (o : Ordering). ordering_then o (lexed xs ys)) (sym (nat_cmp_total.says x y Less h))
+differs [] xs ys x y h = ap (λ (o : Ordering). ordering_then o (lexed xs ys)) (sym (nat_cmp_is x y Less h))
 differs (z ∷ p) xs ys x y h = rw (self nat_cmp rank_lawful z) (differs p xs ys x y h)
 
 pub byte_order : ByteOrder

@@ -1,12 +1,20 @@
 -- Bounded byte strings with the same content are the same.
-use Rattle.std.proofs.Common.{◌≡◌, ℕ, ◌-◌, ◌≤◌, List, ◌++◌, length, drop, replicate, sym, ap, ◌∙◌, arith}
+use Rattle.std.proofs.Common.{◌≡◌, ℕ, ◌-◌, ◌≤◌, Bool, true, false, ◌&&◌, List, ◌++◌, length, drop, replicate, Some, None, Option, sym, refl, ap, ◌∙◌, unwrap_or, arith}
+use mathlib.Core.Bool.{beq}
 use mathlib.Core.List.{is_set}
 use mathlib.Core.HLevel.{is_prop→PathP}
 use native.Mathlib.Nat.{ℕ_set}
 use native.Mathlib.Bridge.{le_prop}
 use Rattle.std.proofs.lemmas.List.{length-take-le, take-append-drop}
+use Rattle.std.proofs.lemmas.Slice.Eq.{bytes_eq-Decides}
+use Rattle.std.proofs.lemmas.Bool.Decides.{Decides-and}
+use Rattle.std.specs.Bool.{Decides}
+use Rattle.std.specs.Cmp.{booleans_Decides}
+use Rattle.std.specs.Option.{option_eq}
 use Rattle.parts.specs.declared.bounded.Bounded.{Bounded}
-use Rattle.parts.specs.Bounds.{content}
+use Rattle.parts.specs.declared.details.Details.{Details}
+use Rattle.parts.specs.declared.head.Head.{Head}
+use Rattle.parts.specs.Bounds.{content, hold_same}
 
 module _ {least most : ℕ} where
   bounded_path : (s t : Bounded least most) → s.len ≡ t.len → s.bytes ≡ t.bytes → s ≡ t
@@ -27,3 +35,29 @@ module _ {least most : ℕ} where
       let n : s.len ≡ t.len = sym (content_length s) ∙ (ap length e ∙ content_length t) in
       let z : drop s.len s.bytes ≡ drop t.len t.bytes = s.padded ∙ (ap (λ (k : ℕ). replicate (most - k) 0) n ∙ sym t.padded) in
       bounded_path s t n (sym (take-append-drop s.len s.bytes) ∙ ((λ i. e i ++ z i) ∙ take-append-drop t.len t.bytes))
+
+  pub hold_same_decides : (s t : Bounded least most) → Decides (hold_same s t) (s ≡ t)
+  hold_same_decides s t = let h = bytes_eq-Decides (content s) (content t) in (λ e. same_content s t (h.0 e), λ e. h.1 (ap content e))
+
+-- ---- what a comparison field by field decides
+
+through : {b : Bool} {P Q : Type 0} → Decides b P → (P → Q) → (Q → P) → Decides b Q
+through d f g = (λ e. f (d.0 e), λ q. d.1 (g q))
+
+option_decides : {X : Type 0} {E : X → X → Bool} → ((x y : X) → Decides (E x y) (x ≡ y)) → (a b : Option X) → Decides (option_eq E a b) (a ≡ b)
+option_decides d None None = (λ e. refl, λ e. refl)
+option_decides d None (Some y) = (λ e. cc, λ e. cc)
+option_decides d (Some x) None = (λ e. cc, λ e. cc)
+option_decides d (Some x) (Some y) = through (d x y) (λ e. ap (λ z. Some z) e) (λ e. ap (λ o. unwrap_or o x) e)
+
+pub details_decides : (s t : Details) → Decides (hold_same s.revision t.revision && option_eq beq s.replaceable t.replaceable) (s ≡ t)
+details_decides s t =
+    through (Decides-and _ _ (hold_same_decides s.revision t.revision) (option_decides booleans_Decides s.replaceable t.replaceable))
+    (λ h i. record { revision = h.0 i; replaceable = h.1 i })
+    (λ e. (ap (λ (d : Details). d.revision) e, ap (λ (d : Details). d.replaceable) e))
+
+pub head_decides : (s t : Head) → Decides (hold_same s.issuer t.issuer && hold_same s.serial t.serial) (s ≡ t)
+head_decides s t =
+    through (Decides-and _ _ (hold_same_decides s.issuer t.issuer) (hold_same_decides s.serial t.serial))
+    (λ h i. record { issuer = h.0 i; serial = h.1 i })
+    (λ e. (ap (λ (d : Head). d.issuer) e, ap (λ (d : Head). d.serial) e))

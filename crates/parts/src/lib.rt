@@ -1,4 +1,6 @@
 // Parts with their real keys and details, inventories of them, and audits.
+#![tactic(auto)]
+
 pub mod audit;
 pub mod bounded;
 pub mod details;

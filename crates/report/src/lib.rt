@@ -1,4 +1,6 @@
 // Probe reports: what firmware says of the parts it saw.
+#![tactic(auto)]
+
 pub mod check;
 pub mod fields;
 pub mod layout;

@@ -1,4 +1,6 @@
 // The program rosuklam: reads files, calls the library and prints its answers.
+#![tactic(auto)]
+
 mod commands;
 mod help;
 mod notation;

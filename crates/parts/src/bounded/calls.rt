@@ -1,10 +1,9 @@
 // Making and reading bounded byte strings.
 ghost use Rattle.std.specs.Prelude.{◌≡◌, ◌≤◌, length, Decides};
 ghost use Rattle.std.specs.Option.{option_map};
-ghost use Rattle.parts.specs.Bounds.{content, bounded_of};
-ghost use Rattle.std.specs.Cmp.Rules.{comparing};
-ghost use Rattle.std.proofs.Common.{rules, arith};
-ghost use Rattle.std.specs.Cmp as Keys;
+ghost use Rattle.std.specs.Cmp.{partial_equiv_from_equiv, nat_eq_equiv, on_equiv};
+ghost use Rattle.std.specs.Cmp.Lexicographic.{lists_equiv};
+ghost use Rattle.parts.specs.Bounds.{content, bounded_of, hold_same};
 
 use crate::bounded::Bounded;
 
@@ -38,32 +37,22 @@ impl<const LEAST: usize, const MOST: usize> Bounded<LEAST, MOST> {
         let whole = &self.bytes[..];
         &whole[0..self.len]
     }
+}
 
-    // Whether two hold the same bytes.
-    fn same(&self, other: &Bounded<LEAST, MOST>) -> bool
-        ensures { Decides result (content self.now ≡ content other.now) }
+// Two are equal where they hold the same bytes, and then they are the same.
+impl<const LEAST: usize, const MOST: usize> PartialEq for Bounded<LEAST, MOST> {
+    ghost eq = { hold_same };
+
+    ghost laws = { partial_equiv_from_equiv (on_equiv content (lists_equiv nat_eq_equiv)) };
+
+    fn eq(&self, other: &Bounded<LEAST, MOST>) -> bool
+        ensures tested { result ≡ hold_same self.now other.now }
+        ensures same { Decides result (self.now ≡ other.now) }
     {
-        same_bytes(self.held(), other.held())
-    }
-}
-
-fn same_bytes(a: &[u8], b: &[u8]) -> bool
-    ensures { Decides result (a.now ≡ b.now) }
-{
-    a == b
-}
-
-impl<const LEAST: usize, const MOST: usize> PartialEq<Bounded<LEAST, MOST>>
-    for Bounded<LEAST, MOST> {
-    ghost equals = { λ x y r. Decides r (x ≡ y) };
-
-    ghost laws = { Keys.partial_equiv_from_equiv (first_of (Prim.search (comparing, rules), Prim.grind (arith, Self.row.coded.inj))) };
-
-    fn eq(&self, other: &Bounded<LEAST, MOST>) -> bool {
-        self.same(other)
+        self.held() == other.held()
     }
 }
 
 impl<const LEAST: usize, const MOST: usize> Eq for Bounded<LEAST, MOST> {
-    ghost laws = { first_of (Prim.search (comparing, rules), Prim.grind (arith, Self.row.coded.inj)) };
+    ghost laws = { on_equiv content (lists_equiv nat_eq_equiv) };
 }

@@ -7,6 +7,6 @@ use Rattle.certificate.proofs.check.check_delta.Goals as goal
 pub returns : goal.returns
 returns c = record {
   is = c.check.ensures;
-  told = told c.args.file.now (λ i. omega (arith, c.type-inv.file i)) Delta c.check.result c.check.ensures;
+  told = told c.args.file.now (λ i. omega (arith, c.type_inv.file i)) Delta c.check.result c.check.ensures;
   one = one_kind c.args.file.now;
 }

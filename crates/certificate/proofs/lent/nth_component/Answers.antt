@@ -23,20 +23,20 @@ none_left k n m h e = omega arith
 
 pub returns-in-Err : goal.returns-in-Err
 returns-in-Err c =
-    let e = left c.loop-k.k c.most-of-k-end.result (most c.args.kind) c.loop-k-test.true c.most-of-k-end.ensures in
+    let e = left c.loop-k.k c.most_of-k-end.result (most c.args.kind) c.loop-k-test.true c.most_of-k-end.ensures in
     let t = from_refused c.args.kind c.args.file.now c.args.list.to (most c.args.kind - (c.loop-k.k + 1)) c.loop-k.at _ c.if-at-list.false (sym c.in-Err.ensures.is) in
     sym (nth_over (c.args.number - c.loop-k.k) _ (ap (λ (k : ℕ). components_from c.args.kind k c.args.file.now c.loop-k.at c.args.list.to) e ∙ t)) ∙ c.loop-k.invariant.1
 
 pub returns-then-k-number : goal.returns-then-k-number
 returns-then-k-number c =
-    let e = left c.loop-k.k c.most-of-k-end.result (most c.args.kind) c.loop-k-test.true c.most-of-k-end.ensures in
+    let e = left c.loop-k.k c.most_of-k-end.result (most c.args.kind) c.loop-k-test.true c.most_of-k-end.ensures in
     let t = from_turn c.args.kind c.args.file.now c.args.list.to (most c.args.kind - (c.loop-k.k + 1)) c.loop-k.at c.in-Ok.component c.in-Ok.next c.if-at-list.false (sym c.in-Ok.ensures.is) in
     let same = c.if-k-number.true in
     sym (nth_here (c.args.number - c.loop-k.k) c.in-Ok.component _ _ (omega arith) (ap (λ (k : ℕ). components_from c.args.kind k c.args.file.now c.loop-k.at c.args.list.to) e ∙ t)) ∙ c.loop-k.invariant.1
 
 pub loop-k-preserved : goal.loop-k-preserved
 loop-k-preserved c =
-    let e = left c.loop-k.k c.most-of-k-end.result (most c.args.kind) c.loop-k-test.true c.most-of-k-end.ensures in
+    let e = left c.loop-k.k c.most_of-k-end.result (most c.args.kind) c.loop-k-test.true c.most_of-k-end.ensures in
     let t = from_turn c.args.kind c.args.file.now c.args.list.to (most c.args.kind - (c.loop-k.k + 1)) c.loop-k.at c.in-Ok.component c.in-Ok.next c.if-at-list.false (sym c.in-Ok.ensures.is) in
     let ne = c.if-k-number.false in
     let le = c.loop-k.invariant.0 in
@@ -45,5 +45,5 @@ loop-k-preserved c =
 
 pub returns : goal.returns
 returns c =
-    let z : most c.args.kind - c.loop-k.k ≡ 0 = none_left c.loop-k.k c.most-of-k-end.result (most c.args.kind) c.loop-k-test.false c.most-of-k-end.ensures in
+    let z : most c.args.kind - c.loop-k.k ≡ 0 = none_left c.loop-k.k c.most_of-k-end.result (most c.args.kind) c.loop-k-test.false c.most_of-k-end.ensures in
     sym (nth_over (c.args.number - c.loop-k.k) _ (ap (λ (k : ℕ). components_from c.args.kind k c.args.file.now c.loop-k.at c.args.list.to) z)) ∙ c.loop-k.invariant.1

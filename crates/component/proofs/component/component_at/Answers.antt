@@ -2,29 +2,29 @@ use Rattle.std.proofs.Common.{rules}
 use Rattle.component.specs.Readings.{component_at}
 use Rattle.component.proofs.component.component_at.Goals as goal
 
-pub returns-in-err-from : goal.returns-in-err-from
+pub returns-in_err-from : goal.returns-in_err-from
 unfolding component_at
-returns-in-err-from c = search rules
+returns-in_err-from c = search rules
 
-pub returns-in-err-key : goal.returns-in-err-key
+pub returns-in_err-key : goal.returns-in_err-key
 unfolding component_at
-returns-in-err-key c = search rules
+returns-in_err-key c = search rules
 
-pub returns-then-not-is-new : goal.returns-then-not-is-new
+pub returns-then-not-is_new : goal.returns-then-not-is_new
 unfolding component_at
-returns-then-not-is-new c = search rules
+returns-then-not-is_new c = search rules
 
-pub returns-in-err-component : goal.returns-in-err-component
+pub returns-in_err-component : goal.returns-in_err-component
 unfolding component_at
-returns-in-err-component c = search rules
+returns-in_err-component c = search rules
 
-pub returns-in-err-end-at : goal.returns-in-err-end-at
+pub returns-in_err-end_at : goal.returns-in_err-end_at
 unfolding component_at
-returns-in-err-end-at c = search rules
+returns-in_err-end_at c = search rules
 
-pub returns-then-not-is-asked : goal.returns-then-not-is-asked
+pub returns-then-not-is_asked : goal.returns-then-not-is_asked
 unfolding component_at
-returns-then-not-is-asked c = search rules
+returns-then-not-is_asked c = search rules
 
 pub returns : goal.returns
 unfolding component_at

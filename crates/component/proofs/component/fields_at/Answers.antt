@@ -2,21 +2,21 @@ use Rattle.std.proofs.Common.{rules}
 use Rattle.component.specs.Readings.{late_at, fields_at}
 use Rattle.component.proofs.component.fields_at.Goals as goal
 
-pub returns-in-err-revision : goal.returns-in-err-revision
+pub returns-in_err-revision : goal.returns-in_err-revision
 unfolding fields_at
-returns-in-err-revision c = search rules
+returns-in_err-revision c = search rules
 
-pub returns-in-err-at : goal.returns-in-err-at
+pub returns-in_err-at : goal.returns-in_err-at
 unfolding fields_at
-returns-in-err-at c = search rules
+returns-in_err-at c = search rules
 
-pub returns-in-err-replaceable : goal.returns-in-err-replaceable
+pub returns-in_err-replaceable : goal.returns-in_err-replaceable
 unfolding fields_at
-returns-in-err-replaceable c = search rules
+returns-in_err-replaceable c = search rules
 
-pub returns-in-err-status : goal.returns-in-err-status
+pub returns-in_err-status : goal.returns-in_err-status
 unfolding fields_at
-returns-in-err-status c = search rules
+returns-in_err-status c = search rules
 
 pub returns : goal.returns
 unfolding fields_at

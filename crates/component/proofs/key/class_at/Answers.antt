@@ -2,25 +2,25 @@ use Rattle.std.proofs.Common.{rules}
 use Rattle.component.specs.Readings.{class_at}
 use Rattle.component.proofs.key.class_at.Goals as goal
 
-pub returns-in-err-from : goal.returns-in-err-from
+pub returns-in_err-from : goal.returns-in_err-from
 unfolding class_at
-returns-in-err-from c = search rules
+returns-in_err-from c = search rules
 
-pub returns-in-err-registry : goal.returns-in-err-registry
+pub returns-in_err-registry : goal.returns-in_err-registry
 unfolding class_at
-returns-in-err-registry c = search rules
+returns-in_err-registry c = search rules
 
-pub returns-then-is-none : goal.returns-then-is-none
+pub returns-then-is_none : goal.returns-then-is_none
 unfolding class_at
-returns-then-is-none c = search rules
+returns-then-is_none c = search rules
 
-pub returns-in-err-class : goal.returns-in-err-class
+pub returns-in_err-class : goal.returns-in_err-class
 unfolding class_at
-returns-in-err-class c = search rules
+returns-in_err-class c = search rules
 
-pub returns-in-err-end-at : goal.returns-in-err-end-at
+pub returns-in_err-end_at : goal.returns-in_err-end_at
 unfolding class_at
-returns-in-err-end-at c = search rules
+returns-in_err-end_at c = search rules
 
 pub returns : goal.returns
 unfolding class_at

@@ -15,11 +15,11 @@ module _ (seen : List ComponentPlaces) (i : ℕ) (d : ComponentPlaces) (file : L
   passed : false ≡ same_key file (get_or seen i d).key key → is_new (drop i seen) file key ≡ is_new (drop (i + 1) seen) file key
   passed e = turn ∙ ap (λ (b : Bool). not b && is_new (drop (i + 1) seen) file key) (sym e)
 
-pub returns-then-same-key : goal.returns-then-same-key
-returns-then-same-key c = sym (found c.args.seen.now c.loop-earlier.earlier-index _ c.args.file.now c.args.key.now c.loop-earlier-test.true c.if-same-key.ensures) ∙ c.loop-earlier.invariant
+pub returns-then-same_key : goal.returns-then-same_key
+returns-then-same_key c = sym (found c.args.seen.now c.loop-earlier.earlier-index _ c.args.file.now c.args.key.now c.loop-earlier-test.true c.if-same_key.ensures) ∙ c.loop-earlier.invariant
 
 pub loop-earlier-preserved : goal.loop-earlier-preserved
-loop-earlier-preserved c = sym (passed c.args.seen.now c.loop-earlier.earlier-index _ c.args.file.now c.args.key.now c.loop-earlier-test.true c.if-same-key.ensures) ∙ c.loop-earlier.invariant
+loop-earlier-preserved c = sym (passed c.args.seen.now c.loop-earlier.earlier-index _ c.args.file.now c.args.key.now c.loop-earlier-test.true c.if-same_key.ensures) ∙ c.loop-earlier.invariant
 
 pub returns : goal.returns
 returns c = sym (at_drop_all (λ (xs : List ComponentPlaces). is_new xs c.args.file.now c.args.key.now) c.args.seen.now c.loop-earlier.earlier-index (omega arith)) ∙ c.loop-earlier.invariant

@@ -2,21 +2,21 @@ use Rattle.std.proofs.Common.{rules}
 use Rattle.component.specs.Readings.{key_at}
 use Rattle.component.proofs.key.key_at.Goals as goal
 
-pub returns-in-err-registry : goal.returns-in-err-registry
+pub returns-in_err-registry : goal.returns-in_err-registry
 unfolding key_at
-returns-in-err-registry c = search rules
+returns-in_err-registry c = search rules
 
-pub returns-in-err-maker : goal.returns-in-err-maker
+pub returns-in_err-maker : goal.returns-in_err-maker
 unfolding key_at
-returns-in-err-maker c = search rules
+returns-in_err-maker c = search rules
 
-pub returns-in-err-model : goal.returns-in-err-model
+pub returns-in_err-model : goal.returns-in_err-model
 unfolding key_at
-returns-in-err-model c = search rules
+returns-in_err-model c = search rules
 
-pub returns-in-err-serial : goal.returns-in-err-serial
+pub returns-in_err-serial : goal.returns-in_err-serial
 unfolding key_at
-returns-in-err-serial c = search rules
+returns-in_err-serial c = search rules
 
 pub returns : goal.returns
 unfolding key_at

@@ -6,4 +6,4 @@ pub returns-in-Some : goal.returns-in-Some
 returns-in-Some c = revision_some c.args.given.now c.in-Some.revision c.in-Some.ensures
 
 pub returns-in-None : goal.returns-in-None
-returns-in-None c = c.no-revision.ensures ∙ revision_none c.args.given.now c.in-None.ensures
+returns-in-None c = c.no_revision.ensures ∙ revision_none c.args.given.now c.in-None.ensures

@@ -7,4 +7,4 @@ use Rattle.component.specs.Meaning.{or_empty}
 use Rattle.component.proofs.meaning.revision_of.Goals as goal
 
 pub returns-in-None : goal.returns-in-None
-returns-in-None c = c.revision-by-in-None.ensures ∙ ap (λ (o : Option Span). bounded_or none (or_empty (option_map (cut c.args.file.now) o))) (sym c.in-None.is)
+returns-in-None c = c.revision_by-in-None.ensures ∙ ap (λ (o : Option Span). bounded_or none (or_empty (option_map (cut c.args.file.now) o))) (sym c.in-None.is)

@@ -5,13 +5,13 @@ use Rattle.der.specs.Numbers.{value_of}
 use Rattle.der.proofs.Digits.{more_below, few_below}
 use Rattle.der.proofs.element.number_of.Goals as goal
 
-pub overflow-mul-value : goal.overflow-mul-value
-overflow-mul-value c =
+pub overflow_mul-value : goal.overflow_mul-value
+overflow_mul-value c =
     let room = few_below c.loop-byte.value c.loop-byte.byte-index c.loop-byte.invariant.1 (omega arith) in
     omega arith
 
-pub overflow-add-value : goal.overflow-add-value
-overflow-add-value c =
+pub overflow_add-value : goal.overflow_add-value
+overflow_add-value c =
     let room = few_below c.loop-byte.value c.loop-byte.byte-index c.loop-byte.invariant.1 (omega arith) in
     omega arith
 

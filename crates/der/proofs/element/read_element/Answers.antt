@@ -6,7 +6,7 @@ use Rattle.der.proofs.element.read_element.Goals as goal
 pub returns : goal.returns
 returns c =
     record {
-      reads = c.element-of.ensures;
-      tells = tells_from c.args.file.now c.args.place c.element-of.result (λ k. omega (arith, c.type-inv.file k)) c.element-of.ensures;
+      reads = c.element_of.ensures;
+      tells = tells_from c.args.file.now c.args.place c.element_of.result (λ k. omega (arith, c.type_inv.file k)) c.element_of.ensures;
       lengths = length_forms;
     }

@@ -6,6 +6,6 @@ use Rattle.parts.proofs.audit.audit.Goals as goal
 pub returns : goal.returns
 returns g c =
     record {
-      audits = c.audit-from.ensures;
-      agrees = agreeing order order_lawful _ _ c.audit-from.result (g.A.Inventory.rising c.args.a.now) (g.B.Inventory.rising c.args.b.now) c.audit-from.ensures;
+      audits = c.audit_from.ensures;
+      agrees = agreeing order order_lawful _ _ c.audit_from.result (g.A.Inventory.rising c.args.a.now) (g.B.Inventory.rising c.args.b.now) c.audit_from.ensures;
     }

@@ -9,13 +9,13 @@ pub loop-p-init : goal.loop-p-init
 loop-p-init g c = agreed_none order _ _ _
 
 pub returns-in-Some-right : goal.returns-in-Some-right
-returns-in-Some-right g c = only_right order order_lawful _ _ _ _ (g.A.Inventory.rising c.args.a.now) (g.B.Inventory.rising c.args.b.now) c.loop-p.invariant c.in-Some-right.q c.in-default.ensures c.in-Some-right.ensures
+returns-in-Some-right g c = only_right order order_lawful _ _ _ _ (g.A.Inventory.rising c.args.a.now) (g.B.Inventory.rising c.args.b.now) c.loop-p.invariant c.in-Some-right.q c.in_default.ensures c.in-Some-right.ensures
 
 pub returns-in-None : goal.returns-in-None
-returns-in-None g c = audit_none order order_lawful _ _ _ _ (g.A.Inventory.rising c.args.a.now) (g.B.Inventory.rising c.args.b.now) c.loop-p.invariant c.in-default.ensures c.in-None.ensures
+returns-in-None g c = audit_none order order_lawful _ _ _ _ (g.A.Inventory.rising c.args.a.now) (g.B.Inventory.rising c.args.b.now) c.loop-p.invariant c.in_default.ensures c.in-None.ensures
 
-pub returns-in-default-right : goal.returns-in-default-right
-returns-in-default-right g c = only_left order order_lawful _ _ _ _ (g.A.Inventory.rising c.args.a.now) (g.B.Inventory.rising c.args.b.now) c.loop-p.invariant c.in-Some.p c.in-Some.ensures c.in-default-right.ensures
+pub returns-in_default-right : goal.returns-in_default-right
+returns-in_default-right g c = only_left order order_lawful _ _ _ _ (g.A.Inventory.rising c.args.a.now) (g.B.Inventory.rising c.args.b.now) c.loop-p.invariant c.in-Some.p c.in-Some.ensures c.in_default-right.ensures
 
 pub returns-in-Less : goal.returns-in-Less
 returns-in-Less g c = first_left order order_lawful _ _ _ _ (g.A.Inventory.rising c.args.a.now) (g.B.Inventory.rising c.args.b.now) c.loop-p.invariant c.in-Some.p c.in-Some-right-2.q c.in-Some.ensures c.in-Some-right-2.ensures (sym c.in-Less.ensures)

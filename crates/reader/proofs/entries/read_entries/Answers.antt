@@ -7,23 +7,23 @@ use Rattle.reader.specs.Readers.{Reader, entries_at}
 use Rattle.reader.proofs.Lists.{entries_over, entries_turn, entries_full, entries_broken}
 use Rattle.reader.proofs.entries.read_entries.Goals as goal
 
-pub shape-of-space-then-count-space : goal.shape-of-space-then-count-space
-shape-of-space-then-count-space g c = c.loop-at.invariant.1
+pub shape_of-space-then-count-space : goal.shape_of-space-then-count-space
+shape_of-space-then-count-space g c = c.loop-at.invariant.1
 
-pub shape-of-space-in-err-entry : goal.shape-of-space-in-err-entry
-shape-of-space-in-err-entry g c = c.loop-at.invariant.1
+pub shape_of-space-in_err-entry : goal.shape_of-space-in_err-entry
+shape_of-space-in_err-entry g c = c.loop-at.invariant.1
 
 below : (m n k : ℕ) → m ≤ n → (m ≡ n → ⊥) → n ≡ k → m < k
 below m n k h ne e = omega arith
 
-pub offset-bounds-space-count : goal.offset-bounds-space-count
-offset-bounds-space-count g c = let h : c.loop-at.count < length c.args.space.now = below _ _ _ c.loop-at.invariant.0 c.if-count-space.false c.loop-at.invariant.1 in search (rules, scaled_fits≤)
+pub offset_bounds-space-count : goal.offset_bounds-space-count
+offset_bounds-space-count g c = let h : c.loop-at.count < length c.args.space.now = below _ _ _ c.loop-at.invariant.0 c.if-count-space.false c.loop-at.invariant.1 in search (rules, scaled_fits≤)
 
-pub overflow-add-count : goal.overflow-add-count
-overflow-add-count g c = let h : c.loop-at.count < length c.args.space.now = below _ _ _ c.loop-at.invariant.0 c.if-count-space.false c.loop-at.invariant.1 in search rules
+pub overflow_add-count : goal.overflow_add-count
+overflow_add-count g c = let h : c.loop-at.count < length c.args.space.now = below _ _ _ c.loop-at.invariant.0 c.if-count-space.false c.loop-at.invariant.1 in search rules
 
-pub shape-of-space : goal.shape-of-space
-shape-of-space g c = c.loop-at.invariant.1
+pub shape_of-space : goal.shape_of-space
+shape_of-space g c = c.loop-at.invariant.1
 
 one_left : (m n : ℕ) → m < n → n - m ≡ suc (n - (m + 1))
 one_left m n h = omega arith
@@ -45,19 +45,19 @@ module _ {P : Type 0} (entry : List P → Reader P) (list : ℕ) (file : List �
       sym (entries_broken entry list (length space - (count + 1)) (take count space) file at end d left (sym (e ∙ front)))
       ∙ ap (λ (n : ℕ). entries_at entry list n (take count space) file at end) (sym (one_left count (length space) within))
 
-pub returns-in-err-entry : goal.returns-in-err-entry
-returns-in-err-entry g c =
+pub returns-in_err-entry : goal.returns-in_err-entry
+returns-in_err-entry g c =
     let h = below _ _ _ c.loop-at.invariant.0 c.if-count-space.false refl in
-    let p = err_from_is_err_and c.from-residual.result c.from-residual.ensures.1 in
-    rw (p.1, p.2) (record { is = broken (g.R.EntryReader.reads c.args.reader.now) c.args.list c.args.file.now c.loop-at.space c.loop-at.count c.loop-at.at c.args.end h c.loop-at-test.true c.in-err-entry.field-0.0 c.in-err-entry.ensures.is ∙ c.loop-at.invariant.2; room = tt })
+    let p = err_from_is_err_and c.from_residual.result c.from_residual.ensures.1 in
+    rw (p.1, p.2) (record { is = broken (g.R.EntryReader.reads c.args.reader.now) c.args.list c.args.file.now c.loop-at.space c.loop-at.count c.loop-at.at c.args.end h c.loop-at-test.true c.in_err-entry.field-0.0 c.in_err-entry.ensures.is ∙ c.loop-at.invariant.2; room = tt })
 
 pub loop-at-preserved : goal.loop-at-preserved
 loop-at-preserved g c =
     let h = below _ _ _ c.loop-at.invariant.0 c.if-count-space.false refl in
-    let n = length-set c.loop-at.space c.loop-at.count c.in-ok-entry.entry in (
+    let n = length-set c.loop-at.space c.loop-at.count c.in_ok-entry.entry in (
       rw n (omega (arith, h)),
       n ∙ c.loop-at.invariant.1,
-      turned (g.R.EntryReader.reads c.args.reader.now) c.args.list c.args.file.now c.loop-at.space c.loop-at.count c.loop-at.at c.args.end h c.loop-at-test.true c.in-ok-entry.entry c.in-ok-entry.next c.in-ok-entry.ensures.is ∙ c.loop-at.invariant.2,
+      turned (g.R.EntryReader.reads c.args.reader.now) c.args.list c.args.file.now c.loop-at.space c.loop-at.count c.loop-at.at c.args.end h c.loop-at-test.true c.in_ok-entry.entry c.in_ok-entry.next c.in_ok-entry.ensures.is ∙ c.loop-at.invariant.2,
     )
 
 pub returns : goal.returns

@@ -2,9 +2,9 @@ use Rattle.std.proofs.Common.{rules}
 use Rattle.reader.specs.Leaves.{leaf_at}
 use Rattle.reader.proofs.leaf.leaf_at.Goals as goal
 
-pub returns-in-err-from : goal.returns-in-err-from
+pub returns-in_err-from : goal.returns-in_err-from
 unfolding leaf_at
-returns-in-err-from c = search rules
+returns-in_err-from c = search rules
 
 pub returns-then-not-keeps : goal.returns-then-not-keeps
 unfolding leaf_at

@@ -5,6 +5,6 @@ use Rattle.report.proofs.check.check_report.Goals as goal
 pub returns : goal.returns
 returns c =
     record {
-      is = c.check-parts.ensures;
-      told = told c.args.file.now c.check-parts.result (λ k. omega (arith, c.type-inv.file k)) c.check-parts.ensures;
+      is = c.check_parts.ensures;
+      told = told c.args.file.now c.check_parts.result (λ k. omega (arith, c.type_inv.file k)) c.check_parts.ensures;
     }

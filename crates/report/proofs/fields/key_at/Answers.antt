@@ -10,4 +10,4 @@ returns c =
     let file : List ℕ = c.args.file.now in
     let at : ℕ = c.args.at in
     let class = four_bytes file at (omega arith) in
-    key_made (fields_at file at) c.in-Ok.key c.requires.good (c.in-Ok.ensures ∙ ap key_of (with_class _ (fields_at file at) _ c.lent-key-lent.ensures (sym class)))
+    key_made (fields_at file at) c.in-Ok.key c.requires.good (c.in-Ok.ensures ∙ ap key_of (with_class _ (fields_at file at) _ c.lent_key-lent.ensures (sym class)))

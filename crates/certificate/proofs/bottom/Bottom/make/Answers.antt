@@ -6,14 +6,14 @@ use Rattle.certificate.specs.Bottoms.{HeadOf}
 use Rattle.certificate.proofs.Bottoms.{parts_counted, parts_few, issuer_sized, serial_sized}
 use Rattle.certificate.proofs.bottom.Bottom.make.Goals as goal
 
-pub head-of-requires : goal.head-of-requires
-head-of-requires c =
+pub head_of-requires : goal.head_of-requires
+head_of-requires c =
     let x = c.certificate-certificate.result in
     let r = c.certificate-certificate.ensures.reads.1 in
     record { issuer = issuer_sized Platform x.file.now x.places r; serial = serial_sized Platform x.file.now x.places r }
 
-pub invariant-of-result : goal.invariant-of-result
-invariant-of-result c =
+pub invariant_of-result : goal.invariant_of-result
+invariant_of-result c =
     let x = c.certificate-certificate.result in
     let r = c.certificate-certificate.ensures.reads.1 in
     let few = parts_few Platform x.file.now x.places r in
@@ -25,7 +25,7 @@ returns c =
     let r = c.certificate-certificate.ensures.reads.1 in
     record {
       file = c.certificate-certificate.ensures.file;
-      head = record { issuer = c.head-of.ensures.issuer; serial = c.head-of.ensures.serial };
+      head = record { issuer = c.head_of.ensures.issuer; serial = c.head_of.ensures.serial };
       few = parts_few Platform x.file.now x.places r;
       reads = r;
     }

@@ -16,5 +16,5 @@ some x y e = ap (λ (z : Line). Some z) e
 pub returns-in-Some : goal.returns-in-Some
 returns-in-Some c =
     let file = c.args.self.now.file.now in
-    some c.line-of.result (line_in file c.in-Some.places) c.line-of.ensures
+    some c.line_of.result (line_in file c.in-Some.places) c.line_of.ensures
     ∙ (ap (option_map (line_in file)) c.in-Some.ensures ∙ sym (nth_map (line_in file) c.args.number (places_in c.args.self.now.kind file c.args.self.now.places)))

@@ -1,8 +1,6 @@
 use Rattle.std.proofs.Common.{◌∙◌}
-use Rattle.std.specs.Cmp.{nat_cmp_total}
-use Rattle.std.specs.Cmp.Lexicographic.{lex-says}
 use Rattle.parts.proofs.Lawful.{lexed_is}
 use Rattle.parts.proofs.key.calls.bytewise.Goals as goal
 
 pub returns : goal.returns
-returns c = lex-says nat_cmp_total c.args.a.now c.args.b.now c.cmp.result c.cmp.ensures ∙ lexed_is c.args.a.now c.args.b.now
+returns c = c.cmp.ensures ∙ lexed_is c.args.a.now c.args.b.now

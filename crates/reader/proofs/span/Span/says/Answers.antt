@@ -5,4 +5,4 @@ use Rattle.reader.proofs.Labels.{same_decides}
 use Rattle.reader.proofs.span.Span.says.Goals as goal
 
 pub returns : goal.returns
-returns c = same_from_decides _ _ c.same-identifier.ensures (same_decides c.of.result.now c.args.wanted.now) ∙ ap (λ (xs : List ℕ). same xs c.args.wanted.now) c.of.ensures
+returns c = same_from_decides _ _ c.same_identifier.ensures (same_decides c.of.result.now c.args.wanted.now) ∙ ap (λ (xs : List ℕ). same xs c.args.wanted.now) c.of.ensures

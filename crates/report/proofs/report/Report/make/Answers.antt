@@ -6,11 +6,11 @@ use Rattle.report.specs.Format.{Reports}
 use Rattle.report.proofs.Whole.{sound}
 use Rattle.report.proofs.report.Report.make.Goals as goal
 
-pub invariant-of-result : goal.invariant-of-result
-invariant-of-result c =
-    let r : Reports c.args.file.now (parts_in c.args.file.now) = sound c.args.file.now (λ k. omega (arith, c.type-inv.file k)) c.requires in
+pub invariant_of-result : goal.invariant_of-result
+invariant_of-result c =
+    let r : Reports c.args.file.now (parts_in c.args.file.now) = sound c.args.file.now (λ k. omega (arith, c.type_inv.file k)) c.requires in
     let few = r.few in
     (ap is_ok c.requires, (refl, (rises_tells order (parts_in c.args.file.now) r.rising, (omega arith, tt))))
 
 pub returns : goal.returns
-returns c = record { same = refl; means = sound c.args.file.now (λ k. omega (arith, c.type-inv.file k)) c.requires }
+returns c = record { same = refl; means = sound c.args.file.now (λ k. omega (arith, c.type_inv.file k)) c.requires }

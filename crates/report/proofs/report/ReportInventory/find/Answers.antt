@@ -11,9 +11,9 @@ pub returns-in-Equal : goal.returns-in-Equal
 returns-in-Equal c =
     let x = c.args.self.now in
     let told : Part Key Details → Option Details = λ q. Some q.details in
-    ap told c.part-of.ensures ∙ lookup_here order c.args.key.now _ _ _ _ (parts_next x.file.now x.keys c.loop-i.i (omega arith)) (sym c.in-Equal.ensures) c.loop-i.invariant
+    ap told c.part_of.ensures ∙ lookup_here order c.args.key.now _ _ _ _ (parts_next x.file.now x.keys c.loop-i.i (omega arith)) (sym c.in-Equal.ensures) c.loop-i.invariant
 
 pub loop-i-preserved : goal.loop-i-preserved
 loop-i-preserved c =
     let x = c.args.self.now in
-    lookup_past order c.args.key.now _ _ _ _ (parts_next x.file.now x.keys c.loop-i.i (omega arith)) (λ same. c.in-default.not-Equal (c.against-at.ensures ∙ same)) c.loop-i.invariant
+    lookup_past order c.args.key.now _ _ _ _ (parts_next x.file.now x.keys c.loop-i.i (omega arith)) (λ same. c.in_default.not-Equal (c.against_at.ensures ∙ same)) c.loop-i.invariant

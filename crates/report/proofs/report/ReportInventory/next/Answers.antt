@@ -14,13 +14,13 @@ loop-n-init c =
     let x = c.args.self.now in
     ap (above order (option_map (λ x. x.now) c.args.above)) (parts_start x.file.now x.keys x.counted)
 
-pub returns-then-is-above : goal.returns-then-is-above
-returns-then-is-above c =
+pub returns-then-is_above : goal.returns-then-is_above
+returns-then-is_above c =
     let x = c.args.self.now in
     let told : Part Key Details → Option (Part Key Details) = λ q. Some q in
-    ap told c.part-of.ensures ∙ above_here order (option_map (λ x. x.now) c.args.above) _ _ _ _ (parts_next x.file.now x.keys c.loop-n.n (omega arith)) (c.if-is-above.ensures.0 refl) c.loop-n.invariant
+    ap told c.part_of.ensures ∙ above_here order (option_map (λ x. x.now) c.args.above) _ _ _ _ (parts_next x.file.now x.keys c.loop-n.n (omega arith)) (c.if-is_above.ensures.0 refl) c.loop-n.invariant
 
 pub loop-n-preserved : goal.loop-n-preserved
 loop-n-preserved c =
     let x = c.args.self.now in
-    above_past order (option_map (λ x. x.now) c.args.above) _ _ _ _ (parts_next x.file.now x.keys c.loop-n.n (omega arith)) (λ over. true≢false (sym (c.if-is-above.ensures.1 over))) c.loop-n.invariant
+    above_past order (option_map (λ x. x.now) c.args.above) _ _ _ _ (parts_next x.file.now x.keys c.loop-n.n (omega arith)) (λ over. true≢false (sym (c.if-is_above.ensures.1 over))) c.loop-n.invariant
