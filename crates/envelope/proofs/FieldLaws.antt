@@ -60,8 +60,8 @@ module _ (file : List ℕ) (typed : Bytes file) where
   not_greater Equal = (λ e h. let z : ◌≡◌ {A = ℕ} 0 1 = cc in let no : ⊥ = omega arith in no, λ n. refl)
   not_greater Greater = (λ e h. let z : ◌≡◌ {A = ℕ} 0 1 = cc in let no : ⊥ = omega arith in no, λ n. absurd (n refl))
 
-  in_order : (p : ValidityPlaces) (v : Validity) → ShowsValidity p v → Decides (in_order file p) (lexed v.first v.last ≡ Greater → ⊥)
-  in_order p v s =
+  in_order_lem : (p : ValidityPlaces) (v : Validity) → ShowsValidity p v → Decides (in_order file p) (lexed v.first v.last ≡ Greater → ⊥)
+  in_order_lem p v s =
       let same : lexed (cut file p.first) (cut file p.last) ≡ lexed v.first v.last = ap (λ (x : List ℕ). lexed x (cut file p.last)) s.first ∙ ap (λ (y : List ℕ). lexed v.first y) s.last in
       let d = not_greater (lexed v.first v.last) in
       (λ e. d.0 (sym (ap (λ (o : Ordering). not (is_gt o)) same) ∙ e), λ n. ap (λ (o : Ordering). not (is_gt o)) same ∙ d.1 n)
@@ -71,7 +71,7 @@ module _ (file : List ℕ) (typed : Bytes file) where
       let times = exact_read file typed {bytes' = λ (v : Validity). encoded 0x18 v.first ++ encoded 0x18 v.last} {Good' = λ (v : Validity). Kept leaf.Time v.first × Kept leaf.Time v.last} {Shows' = ShowsValidity} validity (exact_both file typed (exact_leaf file typed leaf.Time) (exact_leaf file typed leaf.Time))
       (λ x. record { first = x.0; last = x.1 }) (λ v. (v.first, v.last)) (λ x g. refl) (λ v g. refl) (λ x g. g) (λ v g. g)
       (λ p x g s. record { first = s.0; last = s.1 }) (λ p v g s. record { first = s.0; last = s.1 }) in
-      let ordered = exact_judged file typed times in_order BadContent (λ _ v. v.first.to) {Holds = λ (v : Validity). lexed v.first v.last ≡ Greater → ⊥} (λ p v s g. in_order p v s) in
+      let ordered = exact_judged file typed times in_order BadContent (λ _ v. v.first.to) {Holds = λ (v : Validity). lexed v.first v.last ≡ Greater → ⊥} (λ p v s g. in_order_lem p v s) in
       exact_inside file typed 0x30 tt (exact_form file typed ordered (λ v. v) (λ v. v) (λ v g. refl) (λ v g. refl)
       (λ v g. record { first = g.0.0; last = g.0.1; order = g.1 }) (λ v g. ((g.first, g.last), g.order))
       (λ p v g s. s) (λ p v g s. s))

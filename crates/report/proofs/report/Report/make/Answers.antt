@@ -10,7 +10,7 @@ pub invariant_of-result : goal.invariant_of-result
 invariant_of-result c =
     let r : Reports c.args.file.now (parts_in c.args.file.now) = sound c.args.file.now (λ k. omega (arith, c.type_inv.file k)) c.requires in
     let few = r.few in
-    (ap is_ok c.requires, (refl, (rises_tells order (parts_in c.args.file.now) r.rising, (omega arith, tt))))
+    record { ok = ap is_ok c.requires; counted = refl; up = rises_tells order (parts_in c.args.file.now) r.rising; small = omega arith }
 
 pub returns : goal.returns
 returns c = record { same = refl; means = sound c.args.file.now (λ k. omega (arith, c.type_inv.file k)) c.requires }
