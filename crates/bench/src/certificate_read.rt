@@ -15,7 +15,7 @@ pub fn measure(rt: &HostRuntime, file: &[u8]) -> io::Result<()> {
         seen = seen.wrapping_add(issuer_length(file));
     }
     let time = start.elapsed(rt)?.as_nanos();
-    print_time(rt, "check and making", time, TURNS, seen)?;
+    print_time(rt, "check and making", time, seen)?;
     measure_bottom(rt, file)
 }
 
@@ -46,7 +46,7 @@ fn measure_bottom(rt: &HostRuntime, file: &[u8]) -> io::Result<()> {
         }
     }
     let time = start.elapsed(rt)?.as_nanos();
-    print_time(rt, "find", time, TURNS, seen)?;
+    print_time(rt, "find", time, seen)?;
     let start = Instant::now(rt)?;
     let mut seen = 0usize;
     for _ in 0..TURNS {
@@ -55,10 +55,10 @@ fn measure_bottom(rt: &HostRuntime, file: &[u8]) -> io::Result<()> {
         }
     }
     let time = start.elapsed(rt)?.as_nanos();
-    print_time(rt, "next", time, TURNS, seen)
+    print_time(rt, "next", time, seen)
 }
 
-fn print_time(rt: &HostRuntime, what: &str, time: u128, turns: u64, seen: usize) -> io::Result<()> {
-    let each = time / u128::from(turns);
+fn print_time(rt: &HostRuntime, what: &str, time: u128, seen: usize) -> io::Result<()> {
+    let each = time / u128::from(TURNS);
     println!(rt; "{what}: {each} ns each ({seen})")
 }

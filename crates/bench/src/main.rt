@@ -35,7 +35,7 @@ fn run(rt: &HostRuntime) -> anyhow::Result<()> {
         return Ok(());
     }
     if check_report(&file).is_err() {
-        return Err(anyhow!("the file is neither a probe report nor a platform certificate"));
+        return Err(anyhow!("the file is no probe report"));
     }
     let copy = fs::read(rt, path.as_str())?;
     if check_report(&copy).is_err() {

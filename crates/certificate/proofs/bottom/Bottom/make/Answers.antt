@@ -17,7 +17,7 @@ invariant_of-result c =
     let x = c.certificate-certificate.result in
     let r = c.certificate-certificate.ensures.reads.1 in
     let few = parts_few Platform x.file.now x.places r in
-    (parts_counted Platform x.file.now x.places r, (omega arith, tt))
+    record { counted = parts_counted Platform x.file.now x.places r; small = omega arith }
 
 pub returns : goal.returns
 returns c =
