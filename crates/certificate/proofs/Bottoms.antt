@@ -1,10 +1,10 @@
 -- The questions of the bottom, component by component.
-use Rattle.std.proofs.Common.{◌≡◌, ℕ, suc, ◌≤◌, ◌⊎◌, List, [], ◌∷◌, ◌++◌, map, length, Some, None, Option, Ordering, Equal, sym, refl, ap, ◌∙◌, subst, inl, inr, arith}
+use Rattle.std.proofs.Common.{◌≡◌, ℕ, suc, ◌≤◌, List, [], ◌∷◌, ◌++◌, map, length, Some, None, Option, Ordering, Equal, sym, refl, ap, ◌∙◌, subst, inl, inr, arith}
 use Rattle.std.proofs.lemmas.List.{length-map}
 use Rattle.model.specs.declared.part.Part.{Part}
 use Rattle.model.specs.Orders.{if_same}
 use Rattle.model.specs.Parts.{lookup, above}
-use Rattle.model.specs.Gathered.{gathered, over_only, nearer}
+use Rattle.model.specs.Gathered.{over_only, nearer}
 use Rattle.model.proofs.Lists.{if_same_other, put_grows}
 use Rattle.model.proofs.Gathers.{gathered_told, gathered_above, nearer_assoc, nearer_none}
 use Rattle.parts.specs.declared.key.Key.{Key}

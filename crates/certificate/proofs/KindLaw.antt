@@ -1,15 +1,14 @@
 -- No file is a certificate of both kinds.
-use Rattle.std.proofs.Common.{◌≡◌, ℕ, ◌⊎◌, List, [], ◌∷◌, ◌++◌, length, get_or, sym, refl, ap, ◌∙◌, inl, inr, arith}
+use Rattle.std.proofs.Common.{◌≡◌, ℕ, List, [], ◌∷◌, ◌++◌, length, get_or, sym, ap, ◌∙◌, inl, inr, arith}
 use Rattle.std.specs.List.{flat_map}
-use Rattle.std.proofs.lemmas.List.{append-nil}
 use Rattle.der.specs.Encoding.{encoded}
 use Rattle.der.proofs.Laws.{encoded_unique}
 use Rattle.reader.specs.declared.kind.Kind.TheVariants.{Platform, Delta}
 use Rattle.reader.specs.Syntax.{other_bytes, Each, Among}
 use Rattle.reader.proofs.Optional.{encoded_begins}
 use Rattle.envelope.specs.Identifiers.{credential_type, platform_type, delta_type}
-use Rattle.envelope.specs.Profile.{holder_bytes, issuer_bytes, algorithm_bytes, validity_bytes, Attribute, KeptAttribute, attribute_bytes, attributes_bytes, extensions_bytes, Signed, signed_bytes, Envelope, envelope_bytes}
-use Rattle.certificate.specs.Profile.{Profile, OneKind}
+use Rattle.envelope.specs.Profile.{Attribute, KeptAttribute, attribute_bytes, extensions_bytes, Envelope, envelope_bytes}
+use Rattle.certificate.specs.Profile.{OneKind}
 
 -- behind equal elements the same follows
 behind : (t : ℕ) (c d r s : List ℕ) → encoded t c ++ r ≡ encoded t d ++ s → r ≡ s

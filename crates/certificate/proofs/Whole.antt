@@ -1,26 +1,26 @@
 -- A check says yes exactly where the file keeps the profile, and the reading is one.
-use Rattle.std.proofs.Common.{◌≡◌, ℕ, ◌+◌, ◌-◌, ◌<◌, ◌≤◌, min, Bool, true, false, cond, ltb, ◌⊎◌, List, [], ◌∷◌, ◌++◌, map, length, drop, Ok, Err, Result, sym, refl, ap, ◌∙◌, subst, inl, inr, arith}
-use Rattle.std.proofs.lemmas.List.{append-nil, length-append, length-map}
-use Rattle.std.proofs.lemmas.Bool.{cases_lt, lt-ltb, le-ltb, ltb-false}
+use Rattle.std.proofs.Common.{◌≡◌, ℕ, ◌≤◌, min, ltb, List, [], ◌∷◌, ◌++◌, map, length, drop, Ok, Err, Result, sym, refl, ap, ◌∙◌, subst, inl, inr, arith}
+use Rattle.std.proofs.lemmas.List.{append-nil, length-map}
+use Rattle.std.proofs.lemmas.Bool.{cases_lt, le-ltb, ltb-false}
 use Rattle.der.specs.declared.refusal.Refusal.{Refusal}
 use Rattle.der.specs.Refusals.{then}
 use Rattle.der.specs.Numbers.{Bytes, part}
 use Rattle.der.specs.Elements.{end_within, wanted_at, tagged_at}
 use Rattle.der.specs.Encoding.{encoded}
-use Rattle.der.proofs.Parts.{part_length, part_none, part_all}
+use Rattle.der.proofs.Parts.{part_none, part_all}
 use Rattle.der.proofs.Laws.{encoded_unique}
 use Rattle.reader.specs.declared.kind.Kind.{Kind}
 use Rattle.reader.specs.declared.span.Span.{Span}
 use Rattle.reader.specs.Readers.{Reader, cut, ended, inside, both, read}
 use Rattle.reader.specs.Syntax.{Other, other_bytes, Among}
 use Rattle.reader.proofs.Cuts.{cut_within}
-use Rattle.reader.proofs.Exact.{Sound, Complete, then_into, then_made, unless_into, ended_into, ended_made, over, same_answer}
+use Rattle.reader.proofs.Exact.{then_into, then_made, unless_into, ended_into, ended_made, over, same_answer}
 use Rattle.reader.proofs.Optional.{encoded_begins}
 use Rattle.reader.proofs.Lists.{Show}
 use Rattle.reader.proofs.Labels.{among_weaker, only}
 use Rattle.envelope.specs.declared.envelope.EnvelopePlaces.{EnvelopePlaces}
 use Rattle.envelope.specs.Identifiers.{platform_configuration}
-use Rattle.envelope.specs.Profile.{Attribute, Envelope, KeptEnvelope, envelope_bytes, signed_bytes, Reference, Validity}
+use Rattle.envelope.specs.Profile.{Attribute, Envelope, KeptEnvelope, envelope_bytes}
 use Rattle.envelope.specs.Readings.{envelope_at}
 use Rattle.envelope.proofs.EnvelopeLaws.{ShowsEnvelope, exact_envelope}
 use Rattle.component.specs.declared.places.ComponentPlaces.{ComponentPlaces}
@@ -28,12 +28,12 @@ use Rattle.component.specs.declared.places.Components.{Components}
 use Rattle.component.specs.Syntax.{Component, Configuration, configuration_bytes, KeptConfiguration, most}
 use Rattle.component.specs.Readings.{components_at, behind_at, configuration_at, counted, components_from}
 use Rattle.component.specs.Meaning.{Means}
-use Rattle.component.proofs.ConfigurationLaws.{ShowsConfiguration, exact_configuration}
+use Rattle.component.proofs.ConfigurationLaws.{exact_configuration}
 use Rattle.component.proofs.Walks.{configuration_from}
 use Rattle.certificate.specs.declared.line.Line.{Line}
 use Rattle.certificate.specs.declared.places.Places.{Places}
 use Rattle.certificate.specs.Checks.{most_bytes, envelope_of, components_of, checked}
-use Rattle.certificate.specs.Profile.{Certificate, Profile, line_of, Reading, reading_of}
+use Rattle.certificate.specs.Profile.{Certificate, Profile, line_of, reading_of}
 use Rattle.certificate.specs.Readings.{line_in, places_in, reading_at, Reads, Told}
 
 -- ---- an end behind the file

@@ -1,5 +1,5 @@
 -- The inventory that a platform certificate certifies.
-use Rattle.std.specs.Prelude.{◌≡◌, ℕ, List, map}
+use Rattle.std.specs.Prelude.{◌≡◌, List, map}
 use Rattle.model.specs.declared.part.Part.{Part}
 use Rattle.model.specs.Gathered.{gathered}
 use Rattle.parts.specs.declared.key.Key.{Key}

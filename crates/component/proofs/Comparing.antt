@@ -1,5 +1,5 @@
 -- Tests of the same fact are the same.
-use Rattle.std.proofs.Common.{◌≡◌, Bool, true, false, Decides, sym, refl}
+use Rattle.std.proofs.Common.{◌≡◌, Bool, true, false, Decides, refl}
 use Rattle.std.proofs.lemmas.Bool.{false≢true}
 
 pub same_test : {P : Type 0} (r s : Bool) → Decides r P → Decides s P → r ≡ s

@@ -1,5 +1,5 @@
 -- Components are read exactly.
-use Rattle.std.proofs.Common.{◌≡◌, ℕ, ◌≤◌, Bool, true, false, not, ◌&&◌, List, [], ◌∷◌, ◌++◌, length, get_or, is_some, Some, None, Decides, Option, sym, refl, ap, ◌∙◌, subst, inl, inr, arith}
+use Rattle.std.proofs.Common.{◌≡◌, ℕ, ◌≤◌, Bool, true, false, List, [], ◌∷◌, ◌++◌, length, is_some, Some, None, Decides, Option, sym, refl, ap, ◌∙◌, subst, inl, inr, arith}
 use Rattle.std.specs.Option.{option_map}
 use Rattle.std.proofs.lemmas.Bool.{cases_eq, false≢true}
 use Rattle.der.specs.declared.refusal.Reason.TheVariants as reason
@@ -10,7 +10,6 @@ use Rattle.model.specs.declared.part.Status.{Status}
 use Rattle.model.specs.declared.part.Status.TheVariants.{Added, Modified, Removed}
 use Rattle.parts.specs.declared.bounded.Bounded.{Bounded}
 use Rattle.parts.specs.declared.key.Key.{Key}
-use Rattle.parts.specs.declared.details.Details.{Details}
 use Rattle.parts.specs.Bounds.{content}
 use Rattle.parts.proofs.Same.{same_content}
 use Rattle.parts.proofs.Built.{bounded_or, bounded_or_lem, none, revision_small}
@@ -19,7 +18,7 @@ use Rattle.reader.specs.declared.kind.Kind.TheVariants.{Platform, Delta}
 use Rattle.reader.specs.declared.span.Span.{Span}
 use Rattle.reader.specs.declared.leaf.Leaf.TheVariants as leaf
 use Rattle.reader.specs.Readers.{Reader, cut, within, both, read, judged}
-use Rattle.reader.specs.Leaves.{Kept, Sized, Stated}
+use Rattle.reader.specs.Leaves.{Kept, Stated}
 use Rattle.reader.specs.Syntax.{perhaps_bytes, WhereThere, Absent}
 use Rattle.reader.proofs.Exact.{Exact, Anything, Nothing, exact_within, exact_both, exact_read, exact_judged}
 use Rattle.reader.proofs.Optional.{Optional, PerhapsShows, optional_last, optional_more}
@@ -28,7 +27,7 @@ use Rattle.component.specs.declared.places.KeyPlaces.{KeyPlaces}
 use Rattle.component.specs.declared.places.ComponentPlaces.{ComponentPlaces}
 use Rattle.component.specs.Syntax.{Component, key_bytes, unless_empty, status_bytes, component_bytes, StatusOf, StatusAsked}
 use Rattle.component.specs.Readings.{is_new, key_at, late_at, fields_at, component_places, is_asked, component_at}
-use Rattle.component.specs.Meaning.{meant, or_empty, details_by, details_in, status_of, status_in, key_in, Means}
+use Rattle.component.specs.Meaning.{meant, or_empty, details_by, status_of, Means}
 use Rattle.component.proofs.KeyLaws.{ShowsKey, key_shown, exact_key, both_decide, same_decides}
 
 -- ---- the contents of single fields

@@ -1,10 +1,9 @@
 -- Configurations are read exactly.
-use Rattle.std.proofs.Common.{◌≡◌, ℕ, zero, suc, ◌<◌, ◌≤◌, cond, ltb, List, [], ◌∷◌, ◌++◌, length, Ok, Err, Option, sym, refl, ap, ◌∙◌, subst, arith}
+use Rattle.std.proofs.Common.{◌≡◌, ℕ, ◌≤◌, ltb, List, [], ◌∷◌, ◌++◌, length, Ok, Option, sym, refl, ◌∙◌, subst}
 use Rattle.std.specs.List.{flat_map}
-use Rattle.std.proofs.lemmas.Bool.{ltb-true}
 use Rattle.der.specs.Numbers.{Bytes, part}
 use Rattle.der.specs.Elements.{tagged_at}
-use Rattle.der.specs.Encoding.{length_bytes, encoded}
+use Rattle.der.specs.Encoding.{encoded}
 use Rattle.der.proofs.Laws.{tagged_sound, encoded_unique}
 use Rattle.reader.specs.declared.kind.Kind.{Kind}
 use Rattle.reader.specs.declared.span.Span.{Span}
@@ -12,7 +11,7 @@ use Rattle.reader.specs.declared.leaf.Leaf.TheVariants as leaf
 use Rattle.reader.specs.Readers.{Reader, cut, both, read, entries_at, list_at}
 use Rattle.reader.specs.Leaves.{Kept}
 use Rattle.reader.specs.Syntax.{perhaps_bytes, WhereThere, Listed}
-use Rattle.reader.proofs.Exact.{Exact, Anything, Nothing, Sound, Complete, then_into, then_made, cond_into, sound_as, same_answer, same_next, exact_inside, exact_both, exact_read}
+use Rattle.reader.proofs.Exact.{Exact, Anything, Nothing, then_into, then_made, cond_into, sound_as, same_answer, same_next, exact_inside, exact_both, exact_read}
 use Rattle.reader.proofs.Optional.{Optional, encoded_begins, optional_last, optional_more}
 use Rattle.reader.proofs.Lists.{Show, exact_list}
 use Rattle.component.specs.declared.places.ComponentPlaces.{ComponentPlaces}

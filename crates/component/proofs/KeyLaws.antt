@@ -1,5 +1,5 @@
 -- Keys are read exactly, and told apart where they stand.
-use Rattle.std.proofs.Common.{◌≡◌, ℕ, Bool, true, false, cond, not, ◌&&◌, List, [], ◌∷◌, ◌++◌, length, is_some, Some, None, Decides, Option, sym, refl, ap, ◌∙◌, subst, arith}
+use Rattle.std.proofs.Common.{◌≡◌, ℕ, Bool, true, false, cond, not, ◌&&◌, List, ◌++◌, is_some, Some, None, Decides, Option, sym, refl, ap, ◌∙◌, subst}
 use Rattle.std.specs.Str.{bytes_eq}
 use Rattle.std.proofs.lemmas.Slice.Eq.{bytes_eq-Decides}
 use Rattle.std.proofs.lemmas.Bool.{false≢true}
@@ -12,13 +12,13 @@ use Rattle.parts.specs.declared.key.Key.{Key}
 use Rattle.parts.specs.declared.key.Registry.{Registry}
 use Rattle.parts.specs.declared.key.Registry.TheVariants.{Tcg, Dmtf, Pcie, Storage}
 use Rattle.parts.specs.Bounds.{content}
-use Rattle.parts.specs.Keys.{Fields, said, fields_of, number_of, registry_of}
+use Rattle.parts.specs.Keys.{said, number_of, registry_of}
 use Rattle.parts.proofs.Lawful.{key_only}
 use Rattle.parts.proofs.Built.{bounded_or_lem, blank, registry_or, key_from, key_back, good_fields}
 use Rattle.reader.specs.declared.span.Span.{Span}
 use Rattle.reader.specs.declared.leaf.Leaf.TheVariants as leaf
 use Rattle.reader.specs.Readers.{cut}
-use Rattle.reader.specs.Leaves.{Kept, Sized, leaf_at}
+use Rattle.reader.specs.Leaves.{Kept}
 use Rattle.reader.proofs.Exact.{Exact, Anything, exact_inside, exact_both, exact_read, exact_judged}
 use Rattle.reader.proofs.LeafLaws.{exact_leaf}
 use Rattle.component.specs.declared.places.KeyPlaces.{KeyPlaces}

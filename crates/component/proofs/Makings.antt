@@ -1,10 +1,9 @@
 -- Keys and details made from what stands in a file are the ones that the places mean.
-use Rattle.std.proofs.Common.{◌≡◌, ℕ, ◌-◌, ◌<◌, ◌≤◌, Bool, true, false, List, [], ◌∷◌, length, get_or, take, drop, replicate, Some, None, Ok, Err, Option, Result, sym, refl, ap, ◌∙◌, inl, inr, arith}
+use Rattle.std.proofs.Common.{◌≡◌, ℕ, ◌-◌, ◌<◌, ◌≤◌, true, false, List, [], ◌∷◌, length, get_or, take, drop, replicate, Some, None, Ok, Err, Option, Result, sym, refl, ap, ◌∙◌, inl, inr, arith}
 use Rattle.std.proofs.lemmas.Bool.{cases_lt, cases_eq, lt-ltb}
 use Rattle.std.proofs.lemmas.List.{length-take-le}
 use Rattle.std.proofs.lemmas.Bool.Decides.{nat_tests}
 use Rattle.der.specs.declared.refusal.Refusal.{Refusal}
-use Rattle.der.specs.Refusals.{then}
 use Rattle.der.specs.Elements.{tagged_at}
 use Rattle.parts.specs.declared.bounded.Bounded.{Bounded}
 use Rattle.parts.specs.declared.key.Key.{Key}

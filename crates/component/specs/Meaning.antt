@@ -1,5 +1,5 @@
 -- What the places of a component mean. Where their bytes keep no rule they mean some value, which nobody asks for.
-use Rattle.std.specs.Prelude.{◌≡◌, ℕ, Bool, cond, List, [], length, Some, None, Option, ◌==◌, slice_index}
+use Rattle.std.specs.Prelude.{◌≡◌, ℕ, cond, List, [], length, Some, None, Option, ◌==◌, slice_index}
 use Rattle.std.specs.Option.{option_map}
 use Rattle.der.specs.Contents.{boolean_of}
 use Rattle.model.specs.declared.part.Status.{Status}
@@ -8,7 +8,6 @@ use Rattle.parts.specs.declared.key.Key.{Key}
 use Rattle.parts.specs.declared.details.Details.{Details}
 use Rattle.parts.specs.Keys.{Fields, said, number_of}
 use Rattle.parts.proofs.Built.{key_from, bounded_or, none, registry_or}
-use Rattle.reader.specs.declared.span.Span.{Span}
 use Rattle.reader.specs.Readers.{cut}
 use Rattle.component.specs.declared.places.KeyPlaces.{KeyPlaces}
 use Rattle.component.specs.declared.places.ComponentPlaces.{ComponentPlaces}

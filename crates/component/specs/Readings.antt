@@ -1,5 +1,5 @@
 -- Reading a configuration: the answer for every byte string, refusals included, in the order in which they come.
-use Rattle.std.specs.Prelude.{ℕ, zero, suc, Bool, true, false, cond, not, ◌&&◌, List, [], ◌∷◌, length, is_some, Ok, Err, Option, nat_lt}
+use Rattle.std.specs.Prelude.{ℕ, zero, suc, Bool, true, cond, not, ◌&&◌, List, [], ◌∷◌, length, is_some, Ok, Err, Option, nat_lt}
 use Rattle.std.specs.Str.{bytes_eq}
 use Rattle.der.specs.declared.refusal.Reason.TheVariants as reason
 use Rattle.der.specs.Refusals.{refused, then}

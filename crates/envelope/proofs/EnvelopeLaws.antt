@@ -1,13 +1,12 @@
 -- The signed part and the envelope are read exactly.
-use Rattle.std.proofs.Common.{◌≡◌, ℕ, ◌≤◌, Bool, true, List, [], ◌∷◌, ◌++◌, length, get_or, drop, Decides, sym, refl, ap, ◌∙◌, arith}
+use Rattle.std.proofs.Common.{◌≡◌, ℕ, ◌≤◌, List, [], ◌∷◌, ◌++◌, length, drop, sym, refl, ap, ◌∙◌, arith}
 use Rattle.std.proofs.lemmas.List.{append_assoc}
 use Rattle.der.specs.Numbers.{Bytes}
 use Rattle.der.specs.Encoding.{encoded}
 use Rattle.der.specs.declared.refusal.Reason.TheVariants.{AlgorithmsDiffer}
 use Rattle.reader.specs.declared.kind.Kind.{Kind}
-use Rattle.reader.specs.declared.span.Span.{Span}
 use Rattle.reader.specs.declared.leaf.Leaf.TheVariants as leaf
-use Rattle.reader.specs.Readers.{cut, same}
+use Rattle.reader.specs.Readers.{cut}
 use Rattle.reader.specs.Leaves.{Signed as SignatureKept}
 use Rattle.reader.proofs.Exact.{Exact, Anything, exact_inside, exact_both, exact_read, exact_spanned, exact_judged}
 use Rattle.reader.proofs.LeafLaws.{exact_leaf}
@@ -16,7 +15,7 @@ use Rattle.envelope.specs.declared.envelope.EnvelopePlaces.{EnvelopePlaces}
 use Rattle.envelope.specs.declared.signed.SignedPlaces.{SignedPlaces}
 use Rattle.envelope.specs.Profile.{algorithm_bytes, holder_bytes, issuer_bytes, validity_bytes, attributes_bytes, extensions_bytes, Signed, KeptSigned, signed_bytes, Envelope, KeptEnvelope, envelope_bytes}
 use Rattle.envelope.specs.Readings.{signed, signed_at, same_algorithm, envelope, envelope_at}
-use Rattle.envelope.proofs.FieldLaws.{Shown, exact_issuer, ShowsReference, exact_holder, exact_algorithm, ShowsValidity, exact_validity}
+use Rattle.envelope.proofs.FieldLaws.{exact_issuer, ShowsReference, exact_holder, exact_algorithm, ShowsValidity, exact_validity}
 use Rattle.envelope.proofs.ListLaws.{ShowsAttributes, exact_attributes, exact_extensions}
 
 -- a signature's content is 00 and its bytes

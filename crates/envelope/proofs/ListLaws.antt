@@ -1,5 +1,5 @@
 -- Attributes and extensions are read exactly.
-use Rattle.std.proofs.Common.{◌≡◌, ℕ, ◌%◌, Bool, true, false, cond, not, ◌&&◌, ◌||◌, ◌⊎◌, List, [], ◌∷◌, ◌++◌, is_some, Some, None, Decides, Option, sym, refl, ap, ◌∙◌, subst, inl, inr, arith}
+use Rattle.std.proofs.Common.{◌≡◌, ℕ, Bool, true, false, not, ◌||◌, List, ◌∷◌, ◌++◌, is_some, Some, None, Decides, Option, sym, refl, ap, ◌∙◌, subst, arith}
 use Rattle.std.proofs.lemmas.Bool.{false≢true}
 use Rattle.der.specs.Numbers.{Bytes}
 use Rattle.der.specs.Contents.{Identifier, boolean_bytes}
@@ -10,9 +10,9 @@ use Rattle.reader.specs.declared.kind.Kind.{Kind}
 use Rattle.reader.specs.declared.kind.Kind.TheVariants.{Platform, Delta}
 use Rattle.reader.specs.declared.span.Span.{Span}
 use Rattle.reader.specs.declared.leaf.Leaf.TheVariants as leaf
-use Rattle.reader.specs.Readers.{Reader, cut, same, inside, read_in, judged, list_at}
+use Rattle.reader.specs.Readers.{cut, same, inside}
 use Rattle.reader.specs.Leaves.{Kept, leaf_at, passed_at}
-use Rattle.reader.specs.Syntax.{Other, other_bytes, OneByteTag, Among, Absent, Listed, perhaps_bytes, WhereThere}
+use Rattle.reader.specs.Syntax.{Other, other_bytes, OneByteTag, Among, Absent, perhaps_bytes, WhereThere}
 use Rattle.reader.proofs.Exact.{Exact, Anything, exact_within, exact_inside, exact_chain, exact_both, exact_read, exact_form, exact_same, exact_spanned, exact_judged}
 use Rattle.reader.proofs.LeafLaws.{exact_leaf, exact_passed}
 use Rattle.reader.proofs.Optional.{NotFirst, PerhapsShows, encoded_begins, field}
@@ -21,8 +21,8 @@ use Rattle.reader.proofs.Labels.{same_decides}
 use Rattle.envelope.specs.declared.entry.EntryPlaces.{EntryPlaces}
 use Rattle.envelope.specs.Identifiers.{credential_type, credential_specification, platform_configuration, subject_alt_name, certificate_policies, authority_key_identifier, type_of, other_type}
 use Rattle.envelope.specs.Profile.{most_entries, Attribute, KeptAttribute, attribute_bytes, KeptAttributes, attributes_bytes, Extension, KeptExtension, critical_bytes, extension_bytes, KeptExtensions, extensions_bytes}
-use Rattle.envelope.specs.Readings.{value_in, new_identifier_at, kind_at, type_at, value_at, entry, attribute_at, have_all, place_or, attributes_at, marked_at, may_be_marked, extension_at, extensions_at}
-use Rattle.envelope.proofs.EntryLaws.{Tested, passes, fails, tested, exact_new_identifier, has_all, found}
+use Rattle.envelope.specs.Readings.{value_in, kind_at, type_at, value_at, entry, attribute_at, have_all, place_or, attributes_at, may_be_marked, extension_at, extensions_at}
+use Rattle.envelope.proofs.EntryLaws.{passes, fails, tested, exact_new_identifier, has_all, found}
 
 -- the types are identifiers
 type_good : (kind : Kind) → Identifier (type_of kind)

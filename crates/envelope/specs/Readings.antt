@@ -1,6 +1,6 @@
 -- Reading the envelope: the answer for every byte string, refusals included, in the order in which they come. Answers are
 -- places in the file.
-use Rattle.std.specs.Prelude.{ℕ, Bool, true, false, cond, not, ◌&&◌, ◌||◌, List, [], ◌∷◌, is_some, Some, None, Option}
+use Rattle.std.specs.Prelude.{ℕ, Bool, cond, not, ◌&&◌, ◌||◌, List, [], ◌∷◌, is_some, Some, None, Option}
 use Rattle.std.specs.Ordering.{is_gt}
 use Rattle.der.specs.declared.refusal.Reason.TheVariants.{BadContent, Repeated, EntryMissing, CriticalMark, AlgorithmsDiffer, OtherKind}
 use Rattle.reader.specs.declared.kind.Kind.{Kind}

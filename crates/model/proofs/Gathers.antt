@@ -1,10 +1,10 @@
 -- Parts in any order, gathered into a rising list.
 use Rattle.std.proofs.Common.{◌≡◌, List, [], ◌∷◌, Some, None, Option, Ordering, Less, Equal, Greater, sym, refl, ap, ◌∙◌}
 use Rattle.model.specs.declared.part.Part.{Part}
-use Rattle.model.specs.Orders.{Lawful, by, if_same}
+use Rattle.model.specs.Orders.{Lawful, if_same}
 use Rattle.model.specs.Parts.{Rising, Over, lookup, above, Smallest}
 use Rattle.model.specs.Gathered.{gathered, over_only, nearer}
-use Rattle.model.proofs.Lists.{which, less, same, greater, Less≢Equal, Greater≢Equal, Less≢Greater, if_same_other, self, less_turned, greater_turned, put_rising, settled, smallest_of, smallest_one, above_smallest}
+use Rattle.model.proofs.Lists.{which, less, same, greater, Less≢Equal, Less≢Greater, if_same_other, self, less_turned, greater_turned, put_rising, settled, smallest_of, smallest_one, above_smallest}
 
 module _ {K D : Type 0} (cmp : K → K → Ordering) (laws : Lawful cmp) where
   pub gathered_rising : (ps : List (Part K D)) → Rising cmp (gathered cmp ps)

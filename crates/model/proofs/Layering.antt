@@ -1,5 +1,5 @@
 -- What a layer remembers, laid over what it took over, is its booked changes applied in their order. Changes whose demands are met fit.
-use Rattle.std.proofs.Common.{◌≡◌, ℕ, suc, ◌+◌, List, [], ◌∷◌, ◌++◌, length, None, Option, Ordering, Less, Equal, Greater, sym, refl, ap, ◌∙◌, inl, inr, arith}
+use Rattle.std.proofs.Common.{◌≡◌, ℕ, suc, List, [], ◌∷◌, ◌++◌, length, None, Option, Ordering, Less, Equal, Greater, sym, refl, ap, ◌∙◌, inl, inr, arith}
 use Rattle.model.specs.declared.part.Part.{Part}
 use Rattle.model.specs.declared.part.Change.{Change}
 use Rattle.model.specs.declared.part.Status.{Status}

@@ -5,7 +5,7 @@ use Rattle.model.specs.declared.part.Part.{Part}
 use Rattle.model.specs.declared.part.Change.{Change}
 use Rattle.model.specs.declared.part.Status.{Status}
 use Rattle.model.specs.Orders.{Lawful, by, if_same}
-use Rattle.model.specs.Parts.{AllAbove, Is, Over, Rising, Smallest, above, cut, lookup, part, put, settle}
+use Rattle.model.specs.Parts.{AllAbove, Is, Over, Rising, Smallest, above, cut, lookup, put, settle}
 use Rattle.model.specs.Laws.{PartLaws}
 use Rattle.model.specs.Changes.{additions, adds, applied, applied_all, by_status, latest, removals, removes, said, said_or}
 use Rattle.model.specs.declared.part.Status.TheVariants.{Added, Modified, Removed}

@@ -1,5 +1,5 @@
 -- Bounded byte strings with the same content are the same.
-use Rattle.std.proofs.Common.{◌≡◌, ℕ, ◌-◌, ◌≤◌, Bool, true, false, ◌&&◌, List, ◌++◌, length, drop, replicate, Some, None, Option, sym, refl, ap, ◌∙◌, unwrap_or, arith}
+use Rattle.std.proofs.Common.{◌≡◌, ℕ, ◌-◌, ◌≤◌, Bool, ◌&&◌, ◌++◌, length, drop, replicate, Some, None, Option, sym, refl, ap, ◌∙◌, unwrap_or, arith}
 use mathlib.Core.Bool.{beq}
 use mathlib.Core.List.{is_set}
 use mathlib.Core.HLevel.{is_prop→PathP}
@@ -7,7 +7,7 @@ use native.Mathlib.Nat.{ℕ_set}
 use native.Mathlib.Bridge.{le_prop}
 use Rattle.std.proofs.lemmas.List.{length-take-le, take-append-drop}
 use Rattle.std.proofs.lemmas.Slice.Eq.{bytes_eq-Decides}
-use Rattle.std.proofs.lemmas.Bool.Decides.{Decides-and}
+use Rattle.std.proofs.lemmas.Bool.Decides.{Decides-and, Decides-at}
 use Rattle.std.specs.Bool.{Decides}
 use Rattle.std.specs.Cmp.{booleans_Decides}
 use Rattle.std.specs.Option.{option_eq}
@@ -50,14 +50,16 @@ option_decides d None (Some y) = (λ e. cc, λ e. cc)
 option_decides d (Some x) None = (λ e. cc, λ e. cc)
 option_decides d (Some x) (Some y) = through (d x y) (λ e. ap (λ z. Some z) e) (λ e. ap (λ o. unwrap_or o x) e)
 
-pub details_decides : (s t : Details) → Decides (hold_same s.revision t.revision && option_eq beq s.replaceable t.replaceable) (s ≡ t)
-details_decides s t =
-    through (Decides-and _ _ (hold_same_decides s.revision t.revision) (option_decides booleans_Decides s.replaceable t.replaceable))
+pub details_told : (s t : Details) (r : Bool) → r ≡ (hold_same s.revision t.revision && option_eq beq s.replaceable t.replaceable) → Decides r (s ≡ t)
+details_told s t r e =
+    Decides-at _ _ e
+    (through (Decides-and _ _ (hold_same_decides s.revision t.revision) (option_decides booleans_Decides s.replaceable t.replaceable))
     (λ h i. record { revision = h.0 i; replaceable = h.1 i })
-    (λ e. (ap (λ (d : Details). d.revision) e, ap (λ (d : Details). d.replaceable) e))
+    (λ e. (ap (λ (d : Details). d.revision) e, ap (λ (d : Details). d.replaceable) e)))
 
-pub head_decides : (s t : Head) → Decides (hold_same s.issuer t.issuer && hold_same s.serial t.serial) (s ≡ t)
-head_decides s t =
-    through (Decides-and _ _ (hold_same_decides s.issuer t.issuer) (hold_same_decides s.serial t.serial))
+pub head_told : (s t : Head) (r : Bool) → r ≡ (hold_same s.issuer t.issuer && hold_same s.serial t.serial) → Decides r (s ≡ t)
+head_told s t r e =
+    Decides-at _ _ e
+    (through (Decides-and _ _ (hold_same_decides s.issuer t.issuer) (hold_same_decides s.serial t.serial))
     (λ h i. record { issuer = h.0 i; serial = h.1 i })
-    (λ e. (ap (λ (d : Head). d.issuer) e, ap (λ (d : Head). d.serial) e))
+    (λ e. (ap (λ (d : Head). d.issuer) e, ap (λ (d : Head). d.serial) e)))

@@ -1,14 +1,13 @@
 -- Readers that are inverse to an encoding, and how such readers are put together.
-use Rattle.std.proofs.Common.{◌≡◌, ℕ, zero, suc, ◌+◌, ◌-◌, ◌<◌, ◌≤◌, Bool, true, false, cond, ◌&&◌, eqb, ltb, leb, List, [], ◌∷◌, ◌++◌, length, get_or, Some, None, Ok, Err, Decides, Option, Result, sym, refl, ap, ◌∙◌, subst, inl, inr, arith}
-use Rattle.std.proofs.lemmas.Bool.{cases_lt, lt-ltb, le-ltb, ltb-true}
-use Rattle.std.proofs.lemmas.Bool.Decides.{nat_tests}
+use Rattle.std.proofs.Common.{◌≡◌, ℕ, ◌≤◌, Bool, true, false, cond, List, [], ◌++◌, length, Ok, Err, Decides, Result, sym, refl, ap, ◌∙◌, subst, inl, inr, arith}
+use Rattle.std.proofs.lemmas.Bool.{cases_lt, lt-ltb, le-ltb}
 use Rattle.std.proofs.lemmas.List.{append_assoc, append-nil, length-append}
 use Rattle.der.specs.declared.refusal.Refusal.{Refusal}
 use Rattle.der.specs.declared.refusal.Reason.{Reason}
 use Rattle.der.specs.declared.refusal.Reason.TheVariants.{BytesLeft}
 use Rattle.der.specs.Refusals.{refused, then}
 use Rattle.der.specs.Numbers.{Bytes, part}
-use Rattle.der.specs.Elements.{tagged_at, element_at}
+use Rattle.der.specs.Elements.{tagged_at}
 use Rattle.der.specs.Encoding.{encoded}
 use Rattle.der.proofs.Parts.{part_length, part_none, part_split, same_halves}
 use Rattle.der.proofs.Laws.{tagged_sound, tagged_complete}

@@ -1,5 +1,5 @@
 -- Byte strings compared, and entries told apart by their labels.
-use Rattle.std.proofs.Common.{◌≡◌, ℕ, ◌⊎◌, List, [], ◌∷◌, ◌++◌, Decides, sym, refl, ◌∙◌, subst, inl, inr}
+use Rattle.std.proofs.Common.{◌≡◌, ℕ, List, [], ◌∷◌, ◌++◌, Decides, sym, subst, inl, inr}
 use Rattle.std.proofs.lemmas.Slice.Eq.{bytes_eq-Decides}
 use Rattle.reader.specs.Readers.{same}
 use Rattle.reader.specs.Syntax.{Each, Among, Absent, Apart}

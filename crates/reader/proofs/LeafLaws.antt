@@ -1,5 +1,5 @@
 -- Elements that hold no others are read exactly.
-use Rattle.std.proofs.Common.{◌≡◌, ℕ, ◌≤◌, Bool, true, false, cond, ◌&&◌, eqb, leb, List, [], ◌∷◌, ◌++◌, length, get_or, is_some, Ok, Decides, sym, refl, ap, ◌∙◌, inl, inr, arith}
+use Rattle.std.proofs.Common.{◌≡◌, ℕ, ◌≤◌, Bool, true, false, ◌&&◌, eqb, List, [], ◌∷◌, length, get_or, is_some, Decides, sym, refl, ap, ◌∙◌, inl, inr, arith}
 use Rattle.std.proofs.lemmas.Bool.Decides.{nat_tests}
 use Rattle.std.proofs.lemmas.Bool.{cases_eq, ne_eqb, false≢true}
 use Rattle.der.specs.Numbers.{Bytes, part}
@@ -12,9 +12,9 @@ use Rattle.reader.specs.declared.span.Span.{Span}
 use Rattle.reader.specs.declared.leaf.Leaf.{Leaf}
 use Rattle.reader.specs.declared.leaf.Leaf.TheVariants as leaf
 use Rattle.reader.specs.Readers.{cut}
-use Rattle.reader.specs.Leaves.{tag_of, is_sized, Sized, Signed, Stated, Kept, is_kept, leaf_at, passed_at}
+use Rattle.reader.specs.Leaves.{tag_of, is_sized, Sized, Kept, is_kept, leaf_at, passed_at}
 use Rattle.reader.specs.Syntax.{Other, other_bytes, OneByteTag}
-use Rattle.reader.proofs.Exact.{Exact, Anything, Sound, Complete, then_into, then_made, cond_into, sound_as, whole}
+use Rattle.reader.proofs.Exact.{Exact, Anything, then_into, then_made, cond_into, sound_as, whole}
 
 sized_decides : (least most : ℕ) (c : List ℕ) → Decides (is_sized least most c) (Sized least most c)
 sized_decides least most c = (λ e. record { long = grind (arith, nat_tests); short = grind (arith, nat_tests) }, λ s. let a = s.long in let b = s.short in grind (arith, nat_tests))

@@ -1,15 +1,15 @@
 -- Lists of entries are read exactly.
-use Rattle.std.proofs.Common.{◌≡◌, ℕ, zero, suc, ◌+◌, ◌-◌, ◌<◌, ◌≤◌, Bool, true, false, cond, ltb, List, [], ◌∷◌, ◌++◌, length, Ok, Err, Result, sym, refl, ap, ◌∙◌, subst, inl, inr, arith}
+use Rattle.std.proofs.Common.{◌≡◌, ℕ, zero, suc, ◌<◌, ◌≤◌, ltb, List, [], ◌∷◌, ◌++◌, length, Ok, Err, Result, sym, refl, ap, ◌∙◌, subst, inl, inr, arith}
 use Rattle.std.specs.List.{flat_map}
 use Rattle.std.proofs.lemmas.Bool.{cases_lt, lt-ltb, le-ltb, ltb-true}
-use Rattle.std.proofs.lemmas.List.{append_assoc, append-nil, length-append}
+use Rattle.std.proofs.lemmas.List.{append_assoc, append-nil}
 use Rattle.der.specs.declared.refusal.Refusal.{Refusal}
 use Rattle.der.specs.declared.refusal.Reason.TheVariants.{ListSize}
-use Rattle.der.specs.Refusals.{refused, then}
+use Rattle.der.specs.Refusals.{refused}
 use Rattle.der.specs.Numbers.{Bytes, part}
 use Rattle.der.specs.Elements.{tagged_at}
 use Rattle.der.specs.Encoding.{encoded}
-use Rattle.der.proofs.Parts.{part_length, part_none}
+use Rattle.der.proofs.Parts.{part_none}
 use Rattle.der.proofs.Laws.{tagged_sound, tagged_complete}
 use Rattle.reader.specs.Readers.{Reader, entries_at, list_at}
 use Rattle.reader.specs.Syntax.{Each, Absent, Apart, Listed}

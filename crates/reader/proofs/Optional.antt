@@ -1,14 +1,12 @@
 -- Elements that may be missing are read exactly, where what follows cannot be taken for them.
-use Rattle.std.proofs.Common.{◌≡◌, ℕ, suc, ◌+◌, ◌<◌, ◌≤◌, Bool, true, false, cond, ◌&&◌, ◌||◌, eqb, ltb, List, [], ◌∷◌, ◌++◌, length, get_or, Some, None, Ok, Err, Option, Result, sym, refl, ap, ◌∙◌, subst, inl, inr, arith}
-use Rattle.std.proofs.lemmas.Bool.Decides.{nat_tests}
-use Rattle.std.proofs.lemmas.Bool.{cases_lt, cases_eq, lt-ltb, le-ltb, ne_eqb, eq-eqb, false≢true}
-use Rattle.std.proofs.lemmas.List.{append-nil}
+use Rattle.std.proofs.Common.{◌≡◌, ℕ, ◌+◌, ◌<◌, ◌≤◌, Bool, true, false, cond, ◌&&◌, ◌||◌, eqb, ltb, List, [], ◌∷◌, ◌++◌, length, get_or, Some, None, Ok, Option, Result, sym, refl, ap, ◌∙◌, subst, inl, inr, arith}
+use Rattle.std.proofs.lemmas.Bool.{cases_lt, lt-ltb, le-ltb, ne_eqb, eq-eqb, false≢true}
 use Rattle.der.specs.declared.refusal.Refusal.{Refusal}
 use Rattle.der.specs.Refusals.{then}
 use Rattle.der.specs.Numbers.{Bytes, part}
 use Rattle.der.specs.Elements.{end_within}
 use Rattle.der.specs.Encoding.{length_bytes, encoded}
-use Rattle.der.proofs.Parts.{part_length, part_more, part_none}
+use Rattle.der.proofs.Parts.{part_more, part_none}
 use Rattle.reader.specs.declared.span.Span.{Span}
 use Rattle.reader.specs.declared.leaf.Leaf.{Leaf}
 use Rattle.reader.specs.Readers.{Reader, cut, both, perhaps, unless_ended}

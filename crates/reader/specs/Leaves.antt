@@ -1,5 +1,5 @@
 -- Elements that hold no others: each kind with its tag, the rule of its content, and why another content is refused.
-use Rattle.std.specs.Prelude.{◌≡◌, ℕ, ◌≤◌, Bool, true, false, cond, not, ◌&&◌, List, [], ◌∷◌, ◌++◌, length, is_some, Ok, ◌==◌, nat_le, slice_index, slice_index_or}
+use Rattle.std.specs.Prelude.{◌≡◌, ℕ, ◌≤◌, Bool, true, cond, ◌&&◌, List, [], ◌∷◌, length, is_some, Ok, ◌==◌, nat_le, slice_index, slice_index_or}
 use Rattle.der.specs.declared.refusal.Reason.{Reason}
 use Rattle.der.specs.declared.refusal.Reason.TheVariants.{BadContent, TextSize}
 use Rattle.der.specs.Refusals.{refused, then}

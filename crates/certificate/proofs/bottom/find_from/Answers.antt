@@ -1,8 +1,6 @@
-use Rattle.std.proofs.Common.{◌≡◌, ℕ, ◌+◌, ◌-◌, List, Ordering, Equal, sym, ap, ◌∙◌, arith}
+use Rattle.std.proofs.Common.{◌≡◌, ℕ, ◌+◌, ◌-◌, Equal, sym, ap, ◌∙◌, arith}
 use Rattle.component.specs.Syntax.{most}
 use Rattle.component.specs.Readings.{components_from}
-use Rattle.parts.specs.declared.details.Details.{Details}
-use Rattle.parts.specs.declared.key.Key.{Key}
 use Rattle.parts.specs.Keys.{order}
 use Rattle.certificate.specs.declared.line.Line.{Line}
 use Rattle.certificate.proofs.Listing.{walk_over, walk_done, walk_refused, walk_turn}

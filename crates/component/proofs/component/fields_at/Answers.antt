@@ -1,5 +1,5 @@
 use Rattle.std.proofs.Common.{rules}
-use Rattle.component.specs.Readings.{late_at, fields_at}
+use Rattle.component.specs.Readings.{fields_at}
 use Rattle.component.proofs.component.fields_at.Goals as goal
 
 pub returns-in_err-revision : goal.returns-in_err-revision

@@ -1,6 +1,5 @@
-use Rattle.std.proofs.Common.{◌≡◌, ℕ, ◌+◌, ◌<◌, Bool, true, false, cond, List, length, get_or, drop, Some, Option, sym, ap, ◌∙◌}
+use Rattle.std.proofs.Common.{◌≡◌, ℕ, ◌+◌, ◌<◌, Bool, true, false, cond, List, length, get_or, drop, Some, sym, ap, ◌∙◌}
 use Rattle.std.proofs.lemmas.List.{at_drop_more, at_drop_all}
-use Rattle.reader.specs.declared.span.Span.{Span}
 use Rattle.reader.specs.Readers.{same, cut}
 use Rattle.envelope.specs.declared.entry.EntryPlaces.{EntryPlaces}
 use Rattle.envelope.specs.Readings.{value_in}

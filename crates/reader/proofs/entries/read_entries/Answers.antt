@@ -1,10 +1,10 @@
-use Rattle.std.proofs.Common.{◌≡◌, ℕ, suc, ◌+◌, ◌-◌, ◌<◌, ◌≤◌, List, [], ◌∷◌, ◌++◌, length, take, set, Ok, Err, Result, sym, refl, ap, ◌∙◌, arith, length-set, rules}
+use Rattle.std.proofs.Common.{◌≡◌, ℕ, suc, ◌+◌, ◌-◌, ◌<◌, ◌≤◌, List, length, take, set, Ok, Err, sym, refl, ap, ◌∙◌, arith, length-set, rules}
 use borrow.Author.Rules.{scaled_fits≤}
 use Rattle.std.proofs.lemmas.Result.{err_from_is_err_and}
 use Rattle.std.proofs.lemmas.List.{take_more_set}
 use Rattle.der.specs.declared.refusal.Refusal.{Refusal}
 use Rattle.reader.specs.Readers.{Reader, entries_at}
-use Rattle.reader.proofs.Lists.{entries_over, entries_turn, entries_full, entries_broken}
+use Rattle.reader.proofs.Lists.{entries_over, entries_turn, entries_broken}
 use Rattle.reader.proofs.entries.read_entries.Goals as goal
 
 pub shape_of-space-then-count-space : goal.shape_of-space-then-count-space

@@ -1,8 +1,5 @@
-use Rattle.std.proofs.Common.{sym, refl, subst, arith}
-use Rattle.reader.specs.declared.kind.Kind.{Kind}
+use Rattle.std.proofs.Common.{arith}
 use Rattle.reader.specs.declared.kind.Kind.TheVariants.{Platform}
-use Rattle.certificate.specs.Readings.{reading_at}
-use Rattle.certificate.specs.Bottoms.{HeadOf}
 use Rattle.certificate.proofs.Bottoms.{parts_counted, parts_few, issuer_sized, serial_sized}
 use Rattle.certificate.proofs.bottom.Bottom.make.Goals as goal
 

@@ -1,4 +1,3 @@
-use Rattle.std.proofs.Common.{arith}
 use Rattle.reader.proofs.Cuts.{cut_within}
 use Rattle.reader.proofs.span.Span.of.Goals as goal
 
