@@ -9,15 +9,15 @@ mod tree;
 mod words;
 
 use crate::commands::{Outcome, run};
-use anyhow::anyhow;
+use std::process::ExitCode;
 
-fn main(rt: HostRuntime) -> anyhow::Result<()> {
+fn main(rt: HostRuntime) -> ExitCode {
     match run(&rt) {
-        Ok(Outcome::Done) => Ok(()),
-        Ok(Outcome::Failed) => Err(anyhow!("failed")),
+        Ok(Outcome::Done) => ExitCode::SUCCESS,
+        Ok(Outcome::Failed) => ExitCode::FAILURE,
         Err(error) => {
-            eprintln!(rt; "rosuklam: {error}")?;
-            Err(error.into())
+            let _ = eprintln!(rt; "rosuklam: {error}");
+            ExitCode::FAILURE
         }
     }
 }
