@@ -1,6 +1,5 @@
 -- Bounded byte strings with the same content are the same.
-use Rattle.std.proofs.Common.{◌≡◌, ℕ, ◌-◌, ◌≤◌, Bool, ◌&&◌, ◌++◌, length, drop, replicate, Some, None, Option, sym, refl, ap, ◌∙◌, unwrap_or, arith}
-use mathlib.Core.Bool.{beq}
+use Rattle.std.proofs.Common.{◌≡◌, ℕ, ◌-◌, ◌≤◌, Bool, ◌++◌, length, drop, replicate, Some, None, Option, sym, refl, ap, ◌∙◌, unwrap_or, arith}
 use mathlib.Core.List.{is_set}
 use mathlib.Core.HLevel.{is_prop→PathP}
 use native.Mathlib.Nat.{ℕ_set}
@@ -15,6 +14,7 @@ use Rattle.parts.specs.declared.bounded.Bounded.{Bounded}
 use Rattle.parts.specs.declared.details.Details.{Details}
 use Rattle.parts.specs.declared.head.Head.{Head}
 use Rattle.parts.specs.Bounds.{content, hold_same}
+use Rattle.parts.specs.Equality.{details_equal, head_equal, EqualIsSame}
 
 module _ {least most : ℕ} where
   bounded_path : (s t : Bounded least most) → s.len ≡ t.len → s.bytes ≡ t.bytes → s ≡ t
@@ -50,16 +50,24 @@ option_decides d None (Some y) = (λ e. cc, λ e. cc)
 option_decides d (Some x) None = (λ e. cc, λ e. cc)
 option_decides d (Some x) (Some y) = through (d x y) (λ e. ap (λ z. Some z) e) (λ e. ap (λ o. unwrap_or o x) e)
 
-pub details_told : (s t : Details) (r : Bool) → r ≡ (hold_same s.revision t.revision && option_eq beq s.replaceable t.replaceable) → Decides r (s ≡ t)
-details_told s t r e =
-    Decides-at _ _ e
-    (through (Decides-and _ _ (hold_same_decides s.revision t.revision) (option_decides booleans_Decides s.replaceable t.replaceable))
+details_decides : (s t : Details) → Decides (details_equal s t) (s ≡ t)
+details_decides s t =
+    through (Decides-and _ _ (hold_same_decides s.revision t.revision) (option_decides booleans_Decides s.replaceable t.replaceable))
     (λ h i. record { revision = h.0 i; replaceable = h.1 i })
-    (λ e. (ap (λ (d : Details). d.revision) e, ap (λ (d : Details). d.replaceable) e)))
+    (λ e. (ap (λ (d : Details). d.revision) e, ap (λ (d : Details). d.replaceable) e))
 
-pub head_told : (s t : Head) (r : Bool) → r ≡ (hold_same s.issuer t.issuer && hold_same s.serial t.serial) → Decides r (s ≡ t)
-head_told s t r e =
-    Decides-at _ _ e
-    (through (Decides-and _ _ (hold_same_decides s.issuer t.issuer) (hold_same_decides s.serial t.serial))
+head_decides : (s t : Head) → Decides (head_equal s t) (s ≡ t)
+head_decides s t =
+    through (Decides-and _ _ (hold_same_decides s.issuer t.issuer) (hold_same_decides s.serial t.serial))
     (λ h i. record { issuer = h.0 i; serial = h.1 i })
-    (λ e. (ap (λ (d : Head). d.issuer) e, ap (λ (d : Head). d.serial) e)))
+    (λ e. (ap (λ (d : Head). d.issuer) e, ap (λ (d : Head). d.serial) e))
+
+pub equal_is_same : EqualIsSame
+equal_is_same = record { bounded = λ least most s t. hold_same_decides s t; details = details_decides; head = head_decides }
+
+-- the same of an answer, as a comparison gives it
+pub details_told : (s t : Details) (r : Bool) → r ≡ details_equal s t → Decides r (s ≡ t)
+details_told s t r e = Decides-at _ _ e (details_decides s t)
+
+pub head_told : (s t : Head) (r : Bool) → r ≡ head_equal s t → Decides r (s ≡ t)
+head_told s t r e = Decides-at _ _ e (head_decides s t)

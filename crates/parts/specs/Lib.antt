@@ -2,3 +2,4 @@ pub mod Bounds
 pub mod Bytewise
 pub mod Keys
 pub mod Details
+pub mod Equality
