@@ -1,6 +1,6 @@
-// How long the questions take on a probe report, beside a plain loop over the same bytes, and how long the reading of a
-// platform certificate takes. Without a file it measures nothing: figures differ from run to run, and the gate compares
-// what programs print.
+// How long the questions take on a probe report, beside a plain loop over the same bytes, or, as `bench certificate
+// FILE`, how long the reading of a platform certificate takes. Without a file it measures nothing: figures differ from
+// run to run, and the gate compares what programs print.
 #![tactic(auto)]
 
 mod certificate_read;
@@ -29,11 +29,10 @@ fn run(rt: &HostRuntime) -> anyhow::Result<()> {
         println!(rt; "bench REPORT measures the questions of a probe report")?;
         return Ok(());
     };
-    let file = fs::read(rt, path.as_str())?;
-    if check_platform(&file).is_ok() {
-        certificate_read::measure(rt, &file)?;
-        return Ok(());
+    if path.as_str() == "certificate" && args.len() > 1 {
+        return measure_certificate(rt, args[1].as_str());
     }
+    let file = fs::read(rt, path.as_str())?;
     if check_report(&file).is_err() {
         return Err(anyhow!("the file is no probe report"));
     }
@@ -42,6 +41,15 @@ fn run(rt: &HostRuntime) -> anyhow::Result<()> {
         return Err(anyhow!("the file changed while it was read"));
     }
     measure(rt, &file, &Report::make(&file), &Report::make(&copy))?;
+    Ok(())
+}
+
+fn measure_certificate(rt: &HostRuntime, path: &str) -> anyhow::Result<()> {
+    let file = fs::read(rt, path)?;
+    if check_platform(&file).is_err() {
+        return Err(anyhow!("the file is no platform certificate"));
+    }
+    certificate_read::measure(rt, &file)?;
     Ok(())
 }
 
