@@ -1,4 +1,4 @@
--- Bounded byte strings with the same content are the same.
+-- Bounded byte strings with the same content are the same, so `==` tells whether two values are, of parts' details and heads too.
 use Rattle.std.proofs.Common.{◌≡◌, ℕ, ◌-◌, ◌≤◌, Bool, ◌++◌, length, drop, replicate, Some, None, Option, sym, refl, ap, ◌∙◌, unwrap_or, arith}
 use mathlib.Core.List.{is_set}
 use mathlib.Core.HLevel.{is_prop→PathP}
