@@ -1,5 +1,5 @@
 -- Each test of a content means what its rule says.
-use Rattle.std.proofs.Common.{◌≡◌, ℕ, zero, suc, ◌+◌, ◌-◌, ◌*◌, ◌<◌, ◌≤◌, true, false, eqb, ◌⊎◌, List, [], ◌∷◌, length, get_or, take, Decides, sym, refl, ◌∙◌, subst, inl, inr, arith}
+use Rattle.std.proofs.Common.{◌≡◌, ℕ, zero, suc, ◌+◌, ◌-◌, ◌*◌, ◌<◌, ◌≤◌, true, false, eqb, List, [], ◌∷◌, length, get_or, take, Decides, sym, refl, ◌∙◌, subst, inl, inr, arith}
 use Rattle.std.proofs.lemmas.Bool.Decides.{nat_tests}
 use Rattle.std.proofs.lemmas.Bool.{and_parts, and_from, cases_eq, ltb-true, lt-ltb, eqb-true, eq-eqb}
 use Rattle.std.proofs.lemmas.List.{length-take-le, get_or-take}
@@ -89,13 +89,6 @@ between_decides low n high = (
   λ e. record { least = grind (arith, nat_tests); most = grind (arith, nat_tests) },
   λ b. let l = b.least in let m = b.most in grind (arith, nat_tests),
 )
-
--- one digit on, and where the reading stops
-pub digits_more : (x : ℕ) (xs : List ℕ) → 48 ≤ x → x ≤ 57 → all_digits (x ∷ xs) ≡ all_digits xs
-digits_more x xs h k = grind (arith, nat_tests)
-
-pub digits_stop : (x : ℕ) (xs : List ℕ) → (x < 48) ⊎ (57 < x) → all_digits (x ∷ xs) ≡ false
-digits_stop x xs h = elim h [ inl k ↦ grind (arith, nat_tests) | inr k ↦ grind (arith, nat_tests) ]
 
 digits_each : (xs : List ℕ) → all_digits xs ≡ true → (k : ℕ) → k < length xs → Between 48 (get_or xs k 0) 57
 digits_each [] e k h = let never : ⊥ = omega arith in absurd never

@@ -1,7 +1,7 @@
 -- Reading one element: the answer for every byte string, place and end, refusals included.
 use Rattle.std.specs.Prelude.{ℕ, ◌+◌, ◌-◌, ◌%◌, ◌<◌, ◌≤◌, min, cond, ◌||◌, List, length, Ok, Err, Result, ◌==◌, nat_le, nat_lt, slice_index}
 use Rattle.der.specs.declared.refusal.Refusal.{Refusal}
-use Rattle.der.specs.declared.refusal.Reason.TheVariants.{CutShort, LengthForm, WrongTag}
+use Rattle.der.specs.declared.refusal.Reason.TheVariants.{CutShort, LengthForm, WrongTag, BytesLeft}
 use Rattle.der.specs.Refusals.{refused}
 use Rattle.der.specs.Numbers.{part, value_of}
 
@@ -74,3 +74,7 @@ ElementPlaced file at end (Err e) = Unit {0}
 abbrev pub ContentPlaced : List ℕ → ℕ → ℕ → Result (ℕ × ℕ) Refusal → Type 0
 ContentPlaced file at end (Ok p) = Placed file at end p.0 p.1
 ContentPlaced file at end (Err e) = Unit {0}
+
+-- nothing is left in an enclosing element
+abbrev pub ended : ℕ → ℕ → Result (Unit {0}) Refusal
+ended at end = cond (nat_lt at end) (refused BytesLeft at) (Ok tt)

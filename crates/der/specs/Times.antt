@@ -1,5 +1,6 @@
 -- The rule of times: YYYYMMDDHHMMSSZ, each number in its range.
-use Rattle.std.specs.Prelude.{◌≡◌, ℕ, ◌+◌, ◌-◌, ◌*◌, ◌<◌, ◌≤◌, Bool, true, ◌&&◌, List, [], ◌∷◌, length, take, ◌==◌, nat_le, slice_index, slice_index_or}
+use Rattle.std.specs.Prelude.{◌≡◌, ℕ, ◌+◌, ◌-◌, ◌*◌, ◌<◌, ◌≤◌, Bool, ◌&&◌, List, length, take, ◌==◌, nat_le, slice_index, slice_index_or}
+use Rattle.std.specs.List.{list_all}
 
 -- the number that two digits stand for
 abbrev pub two_digits : List ℕ → ℕ → ℕ
@@ -27,8 +28,7 @@ pub record Time (content : List ℕ) : Type 0 where
 
 -- every byte is a digit
 abbrev pub all_digits : List ℕ → Bool
-all_digits [] = true
-all_digits (x ∷ xs) = is_between 48 x 57 && all_digits xs
+all_digits bytes = list_all (λ x. is_between 48 x 57) bytes
 
 -- the test of a time, in three parts: fourteen digits and Z
 abbrev pub is_time_shaped : List ℕ → Bool

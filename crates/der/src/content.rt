@@ -60,7 +60,8 @@ pub fn is_identifier(content: &[u8]) -> bool
     last < 0x80
 }
 
-// Whether an identifier that was read is the one wanted: the content bytes are the same.
+// Whether an identifier that was read is the one wanted: the content bytes are the same. One call of the library's `==`, of
+// which no clause says at the call what it decides.
 pub fn same_identifier(content: &[u8], wanted: &[u8]) -> bool
     ensures { Decides result (content.now ≡ wanted.now) }
 {

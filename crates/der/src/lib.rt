@@ -2,8 +2,11 @@
 #![tactic(auto)]
 
 pub mod content;
+pub mod cursor;
 pub mod element;
+mod number;
 pub mod refusal;
+pub mod tag;
 #[cfg(test)]
 mod tests;
 pub mod time;

@@ -3,7 +3,7 @@ ghost use Rattle.std.specs.Prelude.{◌≡◌};
 ghost use Rattle.der.specs.Refusals.{number_of};
 
 // The closed list of reasons. Each has a fixed number, which users and other tools see.
-#[derive(Clone, Copy)]
+#[derive(Clone, Copy, PartialEq, Eq)]
 pub enum Reason {
     // Reading: what is wrong with the bytes.
     FileTooLong = 1,
@@ -32,14 +32,16 @@ pub enum Reason {
     NamedTwice = 28,
 }
 
-impl Reason {
-    // The reason's number.
-    pub fn number(self) -> u8
-        ensures { result ≡ number_of self }
-    {
-        self as u8
-    }
+// The reason's number.
+impl From<Reason> for u8 {
+    ghost from_gives = { λ reason number. number ≡ number_of reason };
 
+    fn from(reason: Reason) -> u8 {
+        reason as u8
+    }
+}
+
+impl Reason {
     // The refusal for this reason, at a place.
     pub fn at(self, place: usize) -> Refusal
         ensures { result ≡ record { reason = self; place = place } }
@@ -53,7 +55,7 @@ impl Reason {
 
 // A refusal: the reason and the place it counts at. In a file the place is an offset;
 // at a call it is the number of a field or of a change, or 0.
-#[derive(Clone, Copy)]
+#[derive(Clone, Copy, PartialEq, Eq)]
 pub struct Refusal {
     pub reason: Reason,
     pub place: usize,

@@ -1,6 +1,7 @@
 // The edges of the rules, by examples worked out by hand.
 use crate::content::{boolean_of, is_identifier, is_integer, is_serial, same_identifier};
-use crate::element::{element_at, read_element, tagged_at};
+use crate::cursor::Cursor;
+use crate::element::read_element;
 use crate::refusal::Refusal;
 use crate::time::is_time;
 use std::process::Abort;
@@ -14,7 +15,7 @@ fn reads(rt: &impl Abort, file: &[u8], place: usize, tag: u8, content: &[u8]) ->
             assert!(rt; element.content == content);
             Ok(())
         }
-        Err(refusal) => Err(Fail::new(refusal.reason.number())),
+        Err(refusal) => Err(Fail::new(u8::from(refusal.reason))),
     }
 }
 
@@ -23,7 +24,7 @@ fn refused(rt: &impl Abort, file: &[u8], place: usize, number: u8) -> Result<(),
     match read_element(file, place) {
         Ok(element) => Err(Fail::new(element.tag)),
         Err(refusal) => {
-            assert_eq!(rt; refusal.reason.number(), number);
+            assert_eq!(rt; u8::from(refusal.reason), number);
             assert_eq!(rt; refusal.place, place);
             Ok(())
         }
@@ -93,18 +94,22 @@ fn long_lengths(rt: HostRuntime) -> Result<(), Fail> {
     reads(&rt, &file, 0, 0x04, &[0x61u8; 258])
 }
 
-// An element's places, or its refusal's number and place: what `element_at` answers, as numbers.
-fn places(answer: Result<(u8, usize, usize), Refusal>) -> (u8, usize, usize) {
-    match answer {
-        Ok(element) => element,
-        Err(refusal) => (refusal.reason.number(), refusal.place, 0),
+// The tag of the element at a place, where its content begins and what follows it, as numbers; or the number and the place
+// of its refusal.
+fn places(file: &[u8], at: usize, end: usize) -> (u8, usize, usize) {
+    let mut cursor = Cursor { file, at, end };
+    match cursor.element() {
+        Ok((tag, content)) => (tag, content.at, content.end),
+        Err(refusal) => (u8::from(refusal.reason), refusal.place, 0),
     }
 }
 
-fn content(answer: Result<(usize, usize), Refusal>) -> (usize, usize) {
-    match answer {
-        Ok(content) => content,
-        Err(refusal) => (refusal.reason.number() as usize, refusal.place),
+// The same of an element whose tag is wanted, without the tag.
+fn content(file: &[u8], at: usize, end: usize, wanted: u8) -> (usize, usize) {
+    let mut cursor = Cursor { file, at, end };
+    match cursor.enter(wanted) {
+        Ok(content) => (content.at, content.end),
+        Err(refusal) => (usize::from(u8::from(refusal.reason)), refusal.place),
     }
 }
 
@@ -112,29 +117,26 @@ fn content(answer: Result<(usize, usize), Refusal>) -> (usize, usize) {
 fn holders(rt: HostRuntime) {
     let file = b"\x30\x03\x04\x02ab\x05";
     // The element of two bytes fits the file, but not its holder, which ends at 5.
-    assert_eq!(rt; places(element_at(file, 2, 7)), (0x04, 4, 6));
-    assert_eq!(rt; places(element_at(file, 2, 6)), (0x04, 4, 6));
-    assert_eq!(rt; places(element_at(file, 2, 5)), (2, 2, 0));
+    assert_eq!(rt; places(file, 2, 7), (0x04, 4, 6));
+    assert_eq!(rt; places(file, 2, 6), (0x04, 4, 6));
+    assert_eq!(rt; places(file, 2, 5), (2, 2, 0));
     // Missing length bytes are judged at the holder's end too.
-    assert_eq!(rt; places(element_at(file, 2, 3)), (2, 2, 0));
-    assert_eq!(rt; places(element_at(file, 2, 2)), (4, 2, 0));
+    assert_eq!(rt; places(file, 2, 3), (2, 2, 0));
+    assert_eq!(rt; places(file, 2, 2), (4, 2, 0));
     // A holder that is said to end behind the file ends with the file.
-    assert_eq!(rt; places(element_at(file, 2, usize::MAX)), (0x04, 4, 6));
-    assert_eq!(rt;
-        places(element_at(file, usize::MAX, usize::MAX)),
-        (4, usize::MAX, 0)
-    );
+    assert_eq!(rt; places(file, 2, usize::MAX), (0x04, 4, 6));
+    assert_eq!(rt; places(file, usize::MAX, usize::MAX), (4, usize::MAX, 0));
 }
 
 #[test]
 fn wanted_tags(rt: HostRuntime) {
     let file = b"\x30\x03\x04\x02ab\x05";
-    assert_eq!(rt; content(tagged_at(file, 2, 6, 0x04)), (4, 6));
-    assert_eq!(rt; content(tagged_at(file, 2, 6, 0x05)), (4, 2));
-    assert_eq!(rt; content(tagged_at(file, 6, 6, 0x05)), (4, 6));
-    assert_eq!(rt; content(tagged_at(file, 2, 5, 0x04)), (2, 2));
+    assert_eq!(rt; content(file, 2, 6, 0x04), (4, 6));
+    assert_eq!(rt; content(file, 2, 6, 0x05), (4, 2));
+    assert_eq!(rt; content(file, 6, 6, 0x05), (4, 6));
+    assert_eq!(rt; content(file, 2, 5, 0x04), (2, 2));
     // A tag that is wanted is only compared.
-    assert_eq!(rt; content(tagged_at(b"\x1f\x00", 0, 2, 0x1f)), (2, 2));
+    assert_eq!(rt; content(b"\x1f\x00", 0, 2, 0x1f), (2, 2));
 }
 
 #[test]

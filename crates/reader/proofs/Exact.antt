@@ -7,12 +7,12 @@ use Rattle.der.specs.declared.refusal.Reason.{Reason}
 use Rattle.der.specs.declared.refusal.Reason.TheVariants.{BytesLeft}
 use Rattle.der.specs.Refusals.{refused, then}
 use Rattle.der.specs.Numbers.{Bytes, part}
-use Rattle.der.specs.Elements.{tagged_at}
+use Rattle.der.specs.Elements.{tagged_at, ended}
 use Rattle.der.specs.Encoding.{encoded}
 use Rattle.der.proofs.Parts.{part_length, part_none, part_split, same_halves}
 use Rattle.der.proofs.Laws.{tagged_sound, tagged_complete}
 use Rattle.reader.specs.declared.span.Span.{Span}
-use Rattle.reader.specs.Readers.{Reader, cut, ended, within, inside, chain, both, read, spanned, judged}
+use Rattle.reader.specs.Readers.{Reader, cut, within, inside, chain, both, read, spanned, judged}
 
 -- a chain that went well went well at its first step, and from there
 pub then_into : {X Y G : Type 0} (q : Result X Refusal) (k : X → Result Y Refusal) (y : Y) → then q k ≡ Ok y → ((x : X) → q ≡ Ok x → k x ≡ Ok y → G) → G

@@ -1,3 +1,4 @@
 pub mod Readers
 pub mod Leaves
 pub mod Syntax
+pub mod Kinds

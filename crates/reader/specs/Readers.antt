@@ -1,12 +1,14 @@
 -- Readers: from a place in an enclosing element to what stands there and what follows it, or a refusal.
-use Rattle.std.specs.Prelude.{ℕ, zero, suc, ◌<◌, Bool, cond, ◌&&◌, List, [], ◌∷◌, ◌++◌, take, Some, None, Ok, Err, Option, Result, ◌==◌, nat_lt, slice_index}
+use Rattle.std.specs.Prelude.{◌≡◌, ℕ, zero, suc, ◌<◌, Bool, cond, ◌&&◌, List, [], ◌∷◌, ◌++◌, take, Some, None, Ok, Err, Option, Result, IfOk, ◌==◌, nat_lt, slice_index}
 use Rattle.std.specs.Str.{bytes_eq}
 use Rattle.der.specs.declared.refusal.Refusal.{Refusal}
 use Rattle.der.specs.declared.refusal.Reason.{Reason}
-use Rattle.der.specs.declared.refusal.Reason.TheVariants.{BytesLeft, ListSize}
+use Rattle.der.specs.declared.refusal.Reason.TheVariants.{ListSize}
 use Rattle.der.specs.Refusals.{refused, then}
 use Rattle.der.specs.Numbers.{part}
-use Rattle.der.specs.Elements.{tagged_at, end_within}
+use Rattle.der.specs.Elements.{tagged_at, end_within, ended}
+use Rattle.der.specs.declared.cursor.Cursor.{Cursor}
+use Rattle.arrayvec.specs.ArrayVec.{ArrayVec}
 use Rattle.reader.specs.declared.span.Span.{Span}
 
 -- the bytes of a file where a span says
@@ -21,14 +23,21 @@ same xs ys = bytes_eq xs ys
 abbrev pub Reader : Type 0 → Type 0
 Reader X = List ℕ → ℕ → ℕ → Result (X × ℕ) Refusal
 
--- nothing is left in an enclosing element
-abbrev pub ended : ℕ → ℕ → Result (Unit {0}) Refusal
-ended at end = cond (nat_lt at end) (refused BytesLeft at) (Ok tt)
+-- an answer, and what follows what was read
+abbrev pub followed : {X : Type 0} → Result X Refusal → ℕ → Result (X × ℕ) Refusal
+followed (Ok x) next = Ok (x, next)
+followed (Err e) next = Err e
 
--- what follows an element lies behind its place
-abbrev pub Forward : {X : Type 0} → ℕ → Result (X × ℕ) Refusal → Type 0
-Forward at (Ok p) = at < p.1
-Forward at (Err e) = Unit {0}
+-- a cursor reads by a reader: it answers what the reader does and then stands at what follows, in the same file and the
+-- same element; after a refusal its place means nothing
+pub record Reads {X : Type 0} (reader : Reader X) (old new : Cursor) (result : Result X Refusal) : Type 0 where
+  pub is : followed result new.at ≡ reader old.file.now old.at old.end
+  pub file : new.file.now ≡ old.file.now
+  pub end : new.end ≡ old.end
+
+-- what was read lies in front of where the cursor stands now
+abbrev pub Advances : {X : Type 0} → Cursor → Cursor → Result X Refusal → Type 0
+Advances old new result = IfOk result (λ _. old.at < new.at)
 
 -- an element with a tag that holds exactly what is read inside; the reader inside is told the place of the element
 abbrev pub within : {X : Type 0} → ℕ → (ℕ → Reader X) → Reader X
@@ -88,7 +97,7 @@ abbrev pub filled : {X : Type 0} → Result ℕ Refusal → List X → Result (L
 filled (Ok n) xs = Ok (take n xs)
 filled (Err e) xs = Err e
 
--- the same with what follows
-abbrev pub listed : {X : Type 0} → Result (ℕ × ℕ) Refusal → List X → Result (List X × ℕ) Refusal
-listed (Ok p) xs = Ok (take p.0 xs, p.1)
-listed (Err e) xs = Err e
+-- the entries that were read of a list
+abbrev pub entries_of : {X : Type 0} → Result (ArrayVec X) Refusal → Result (List X) Refusal
+entries_of (Ok xs) = Ok xs.items
+entries_of (Err e) = Err e

@@ -1,14 +1,15 @@
 // Elements that hold no others: each kind with its tag and the rule of its content.
-ghost use Rattle.std.specs.Prelude.{◌≡◌, ◌<◌};
-ghost use Rattle.reader.specs.Readers.{ended, Forward, perhaps, unless_ended};
+ghost use Rattle.std.specs.Prelude.{◌≡◌};
+ghost use Rattle.reader.specs.Readers.{Reads, Advances, perhaps, unless_ended};
 ghost use Rattle.reader.specs.Leaves.{tag_of, is_kept, reason_of, leaf_at, passed_at};
 
 use crate::span::Span;
 use der::content::{boolean_of, is_identifier, is_serial};
-use der::element::{element_at, tagged_at};
+use der::cursor::Cursor;
 use der::refusal::{Reason, Refusal};
 use der::time::is_time;
 
+// One enum and no type for each kind, since the profile names a kind by its value.
 #[derive(Clone, Copy)]
 pub enum Leaf {
     // The version of a certificate: INTEGER 1.
@@ -20,7 +21,7 @@ pub enum Leaf {
     Time,
     // The mark of a critical extension: BOOLEAN true.
     Critical,
-    // An element with this tag that is not looked into.
+    // An element with this tag that is not looked into; a tag is any byte.
     Opaque(u8),
     // A BIT STRING of whole bytes, at least one.
     Signature,
@@ -86,62 +87,55 @@ impl Leaf {
             _ => Reason::BadContent,
         }
     }
-}
 
-// The element of a kind: where its content stands, and what follows it.
-pub fn leaf_at(file: &[u8], at: usize, end: usize, kind: Leaf) -> Result<(Span, usize), Refusal>
-    ensures is { result ≡ leaf_at kind file.now at end }
-    ensures forward { Forward at result }
-{
-    let (from, to) = tagged_at(file, at, end, kind.tag())?;
-    if !kind.keeps(&file[from..to]) {
-        return Err(kind.reason().at(at));
+    // The element of this kind: where its content stands. The cursor then stands behind it.
+    #[tactic(auto, unfolding(crate::specs::Leaves::leaf_at))]
+    pub fn read(self, cursor: &mut Cursor<'_>) -> Result<Span, Refusal>
+        ensures is { Reads (leaf_at self) cursor.old cursor.new result }
+        ensures forward { Advances cursor.old cursor.new result }
+    {
+        let at = cursor.at;
+        let content = cursor.enter(self.tag())?;
+        if !self.keeps(&content.file[content.at..content.end]) {
+            return Err(self.reason().at(at));
+        }
+        Ok(Span {
+            from: content.at,
+            to: content.end,
+        })
     }
-    Ok((Span { from, to }, to))
-}
 
-// An element passed over, as a whole.
-pub fn passed_at(file: &[u8], at: usize, end: usize) -> Result<(Span, usize), Refusal>
-    ensures is { result ≡ passed_at file.now at end }
-    ensures forward { Forward at result }
-{
-    let (_, _, to) = element_at(file, at, end)?;
-    Ok((Span { from: at, to }, to))
-}
-
-// Nothing is left in an enclosing element.
-pub fn end_at(at: usize, end: usize) -> Result<(), Refusal>
-    ensures { result ≡ ended at end }
-{
-    if at < end {
-        return Err(Reason::BytesLeft.at(at));
+    // An element of this kind that may be missing: there where its tag stands.
+    pub fn read_optional(self, cursor: &mut Cursor<'_>) -> Result<Option<Span>, Refusal>
+        ensures { Reads (perhaps (tag_of self) (leaf_at self)) cursor.old cursor.new result }
+    {
+        if cursor.tag() != Some(self.tag()) {
+            return Ok(None);
+        }
+        Ok(Some(self.read(cursor)?))
     }
-    Ok(())
 }
 
-// An element of a kind that may be missing: there where its tag stands.
-pub fn optional_at(
-    file: &[u8],
-    at: usize,
-    end: usize,
-    kind: Leaf,
-) -> Result<(Option<Span>, usize), Refusal>
-    ensures { result ≡ perhaps (tag_of kind) (leaf_at kind) file.now at end }
+// An element passed over: where it stands as a whole.
+#[tactic(auto, unfolding(crate::specs::Leaves::passed_at))]
+pub fn pass_over(cursor: &mut Cursor<'_>) -> Result<Span, Refusal>
+    ensures is { Reads passed_at cursor.old cursor.new result }
+    ensures forward { Advances cursor.old cursor.new result }
 {
-    if at >= end.min(file.len()) || file[at] != kind.tag() {
-        return Ok((None, at));
-    }
-    let (found, next) = leaf_at(file, at, end, kind)?;
-    Ok((Some(found), next))
+    let from = cursor.at;
+    let (_, content) = cursor.element()?;
+    Ok(Span {
+        from,
+        to: content.end,
+    })
 }
 
 // One more element passed over, where anything is left.
-pub fn further_at(file: &[u8], at: usize, end: usize) -> Result<(Option<Span>, usize), Refusal>
-    ensures { result ≡ unless_ended passed_at file.now at end }
+pub fn pass_over_any(cursor: &mut Cursor<'_>) -> Result<Option<Span>, Refusal>
+    ensures { Reads (unless_ended passed_at) cursor.old cursor.new result }
 {
-    if at >= end {
-        return Ok((None, at));
+    if cursor.at >= cursor.end {
+        return Ok(None);
     }
-    let (found, next) = passed_at(file, at, end)?;
-    Ok((Some(found), next))
+    Ok(Some(pass_over(cursor)?))
 }

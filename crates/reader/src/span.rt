@@ -4,8 +4,8 @@ ghost use Rattle.reader.specs.Readers.{cut, same};
 
 use der::content::same_identifier;
 
-// From one place up to another.
-#[derive(Clone, Copy)]
+// From one place up to another. Several are looked at in one file, so the file comes once beside them.
+#[derive(Clone, Copy, Default)]
 pub struct Span {
     pub from: usize,
     pub to: usize,

@@ -1,6 +1,6 @@
 use Rattle.std.proofs.Common.{◌≡◌, ◌^◌, ◌<◌, take}
 use Rattle.der.specs.Numbers.{value_of}
-use Rattle.der.proofs.element.number_of.Given as goal
+use Rattle.der.proofs.number.number_of.Given as goal
 
 abbrev pub invariant-loop-byte : goal.invariant-loop-byte
 invariant-loop-byte l = (l.value ≡ value_of (take l.byte-index l.bytes)) × (l.value < 256 ^ l.byte-index)
