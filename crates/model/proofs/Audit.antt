@@ -1,31 +1,32 @@
 -- An audit walks both inventories side by side.
-use Rattle.std.proofs.Common.{◌≡◌, ◌<◌, ◌≤◌, ◌⊎◌, List, [], ◌∷◌, length, Some, None, Option, Ordering, Less, Equal, Greater, sym, refl, ap, ◌∙◌, subst, inl, inr, arith}
+use Rattle.std.proofs.Common.{◌≡◌, ◌⊎◌, List, [], ◌∷◌, Some, None, Option, Ordering, Less, Equal, sym, refl, ap, ◌∙◌, subst, inl, inr}
+use Rattle.std.proofs.lemmas.Option.{none-some}
+use Rattle.std.specs.Ordering.{ord_min}
 use Rattle.model.specs.declared.part.Part.{Part}
-use Rattle.model.specs.Orders.{Lawful, by}
-use Rattle.model.specs.Parts.{Over, Rising, lookup, above, Smallest}
-use Rattle.model.specs.Audits.{Auditing, Agreeing}
-use Rattle.model.proofs.Lists.{which, self, greater_turned, less_turned, None≢Some, above_smallest, extensional}
+use Rattle.model.specs.Orders.{Lawful}
+use Rattle.model.specs.Parts.{Over, Rising, lookup, above, beyond, Smallest}
+use Rattle.std.specs.Iterator.{Drains}
+use Rattle.model.specs.Audits.{Auditing, Agreeing, Differing, Comparison, Comparing}
+use Rattle.model.proofs.Lists.{which, self, greater_turned, less_turned, part_path, above_smallest, extensional}
+use Rattle.model.proofs.Walks.{over_trans, beyond_none, beyond_first}
 use Rattle.model.proofs.Lists.Which.{less, same, greater}
 
 module _ {K D : Type 0} (cmp : K → K → Ordering) where
-  -- the parts above k
-  abbrev pub beyond : Option K → List (Part K D) → List (Part K D)
-  beyond None l = l
-  beyond (Some k) [] = []
-  beyond (Some k) (p ∷ l) = by (cmp k p.key) (p ∷ l) (beyond (Some k) l) (beyond (Some k) l)
-
   -- above `from` and not above `now` the two say the same, and `now` is not below `from`
   pub record Agreed (l m : List (Part K D)) (from now : Option K) : Type 0 where
     pub same : (q : K) → Over cmp from q → (lookup cmp q l ≡ lookup cmp q m) ⊎ Over cmp now q
     pub past : (q : K) → Over cmp now q → Over cmp from q
 
-  pub agreed_none : (l m : List (Part K D)) (from : Option K) → Agreed l m from from
+  agreed_none : (l m : List (Part K D)) (from : Option K) → Agreed l m from from
   agreed_none l m from = record { same = λ q o. inr o; past = λ q o. o }
 
-module _ {K : Type 0} (cmp : K → K → Ordering) (laws : Lawful cmp) where
-  over_trans : (k : Option K) (j q : K) → Over cmp k j → cmp j q ≡ Less → Over cmp k q
-  over_trans None j q o e = tt
-  over_trans (Some k) j q o e = laws.trans k j q o e
+  -- the two the other way round
+  agreed_turned : {l m : List (Part K D)} {from now : Option K} → Agreed l m from now → Agreed m l from now
+  agreed_turned g = record { same = λ q o. elim (g.same q o) [ inl s ↦ inl (sym s) | inr a ↦ inr a ]; past = g.past }
+
+  auditing_turned : (l m : List (Part K D)) (k r : Option K) → Auditing cmp l m k r → Auditing cmp m l k r
+  auditing_turned l m k None a = λ q o. sym (a q o)
+  auditing_turned l m k (Some j) a = (a.0, λ e. a.1 (sym e), λ q o b. sym (a.2 q o b))
 
 module _ {K D : Type 0} (cmp : K → K → Ordering) (laws : Lawful cmp) where
   -- ---- what a turn tells
@@ -38,7 +39,7 @@ module _ {K D : Type 0} (cmp : K → K → Ordering) (laws : Lawful cmp) where
     right = above_smallest cmp laws now m um
 
     -- neither has a part above
-    pub audit_none : None ≡ above cmp now l → None ≡ above cmp now m → Auditing cmp l m from None
+    audit_none : None ≡ above cmp now l → None ≡ above cmp now m → Auditing cmp l m from None
     audit_none e f = λ q o.
         elim (g.same q o) [
           | inl s ↦ s
@@ -50,50 +51,27 @@ module _ {K D : Type 0} (cmp : K → K → Ordering) (laws : Lawful cmp) where
     between j none q o b = elim (g.same q o) [ inl s ↦ s | inr a ↦ (let n = none q a b in n.0 ∙ sym n.1) ]
 
     -- the first of l above `now` stands below all of m above `now`
-    pub audit_left : (p : Part K D) → Some p ≡ above cmp now l → ((q : K) → Over cmp now q → (cmp q p.key ≡ Less) ⊎ (q ≡ p.key) → lookup cmp q m ≡ None) → Auditing cmp l m from (Some p.key)
+    audit_left : (p : Part K D) → Some p ≡ above cmp now l → ((q : K) → Over cmp now q → (cmp q p.key ≡ Less) ⊎ (q ≡ p.key) → lookup cmp q m ≡ None) → Auditing cmp l m from (Some p.key)
     audit_left p e none =
         let s = subst (Smallest cmp (λ q. lookup cmp q l) now) (sym e) left in (
           g.past p.key s.0,
-          (λ same. None≢Some (sym (none p.key s.0 (inr refl)) ∙ (sym same ∙ s.1))),
+          (λ same. none-some _ (sym (none p.key s.0 (inr refl)) ∙ (sym same ∙ s.1))),
           between p.key (λ q a b. (s.2 q a b, none q a (inl b))),
         )
-
-    pub audit_right : (p : Part K D) → Some p ≡ above cmp now m → ((q : K) → Over cmp now q → (cmp q p.key ≡ Less) ⊎ (q ≡ p.key) → lookup cmp q l ≡ None) → Auditing cmp l m from (Some p.key)
-    audit_right p e none =
-        let s = subst (Smallest cmp (λ q. lookup cmp q m) now) (sym e) right in (
-          g.past p.key s.0,
-          (λ same. None≢Some (sym (none p.key s.0 (inr refl)) ∙ (same ∙ s.1))),
-          between p.key (λ q a b. (none q a (inl b), s.2 q a b)),
-        )
-
-    -- m has nothing above `now`, or its first part there stands above k
-    none_right : None ≡ above cmp now m → (k q : K) → Over cmp now q → (cmp q k ≡ Less) ⊎ (q ≡ k) → lookup cmp q m ≡ None
-    none_right e k q a b = subst (Smallest cmp (λ q. lookup cmp q m) now) (sym e) right q a
-
-    none_left : None ≡ above cmp now l → (k q : K) → Over cmp now q → (cmp q k ≡ Less) ⊎ (q ≡ k) → lookup cmp q l ≡ None
-    none_left e k q a b = subst (Smallest cmp (λ q. lookup cmp q l) now) (sym e) left q a
 
     lower : (k j q : K) → cmp k j ≡ Less → (cmp q k ≡ Less) ⊎ (q ≡ k) → cmp q j ≡ Less
     lower k j q b c = elim c [ inl d ↦ laws.trans q k j d b | inr e ↦ subst (λ (x : K). cmp x j ≡ Less) (sym e) b ]
 
-    pub only_left : (p : Part K D) → Some p ≡ above cmp now l → None ≡ above cmp now m → Auditing cmp l m from (Some p.key)
-    only_left p e f = audit_left p e (none_right f p.key)
+    only_left : (p : Part K D) → Some p ≡ above cmp now l → None ≡ above cmp now m → Auditing cmp l m from (Some p.key)
+    only_left p e f = audit_left p e (λ q a b. subst (Smallest cmp (λ q. lookup cmp q m) now) (sym f) right q a)
 
-    pub only_right : (p : Part K D) → None ≡ above cmp now l → Some p ≡ above cmp now m → Auditing cmp l m from (Some p.key)
-    only_right p e f = audit_right p f (none_left e p.key)
-
-    pub first_left : (p q : Part K D) → Some p ≡ above cmp now l → Some q ≡ above cmp now m → cmp p.key q.key ≡ Less → Auditing cmp l m from (Some p.key)
+    first_left : (p q : Part K D) → Some p ≡ above cmp now l → Some q ≡ above cmp now m → cmp p.key q.key ≡ Less → Auditing cmp l m from (Some p.key)
     first_left p q e f b =
         let s = subst (Smallest cmp (λ x. lookup cmp x m) now) (sym f) right in
         audit_left p e (λ x a c. s.2 x a (lower p.key q.key x b c))
 
-    pub first_right : (p q : Part K D) → Some p ≡ above cmp now l → Some q ≡ above cmp now m → cmp p.key q.key ≡ Greater → Auditing cmp l m from (Some q.key)
-    first_right p q e f b =
-        let s = subst (Smallest cmp (λ x. lookup cmp x l) now) (sym e) left in
-        audit_right q f (λ x a c. s.2 x a (lower q.key p.key x (greater_turned cmp laws p.key q.key b) c))
-
     -- both have the same key next
-    pub details_differ : (p q : Part K D) → Some p ≡ above cmp now l → Some q ≡ above cmp now m → cmp p.key q.key ≡ Equal → (p.details ≡ q.details → ⊥) → Auditing cmp l m from (Some p.key)
+    details_differ : (p q : Part K D) → Some p ≡ above cmp now l → Some q ≡ above cmp now m → cmp p.key q.key ≡ Equal → (p.details ≡ q.details → ⊥) → Auditing cmp l m from (Some p.key)
     details_differ p q e f b d =
         let s = subst (Smallest cmp (λ x. lookup cmp x l) now) (sym e) left in
         let t = subst (Smallest cmp (λ x. lookup cmp x m) now) (sym f) right in
@@ -105,7 +83,7 @@ module _ {K D : Type 0} (cmp : K → K → Ordering) (laws : Lawful cmp) where
           between p.key (λ x a c. (s.2 x a c, t.2 x a (subst (λ (y : K). cmp x y ≡ Less) k c))),
         )
 
-    pub agreed_more : (p q : Part K D) → Some p ≡ above cmp now l → Some q ≡ above cmp now m → cmp p.key q.key ≡ Equal → p.details ≡ q.details → Agreed cmp l m from (Some p.key)
+    agreed_more : (p q : Part K D) → Some p ≡ above cmp now l → Some q ≡ above cmp now m → cmp p.key q.key ≡ Equal → p.details ≡ q.details → Agreed cmp l m from (Some p.key)
     agreed_more p q e f b d =
         let s = subst (Smallest cmp (λ x. lookup cmp x l) now) (sym e) left in
         let t = subst (Smallest cmp (λ x. lookup cmp x m) now) (sym f) right in
@@ -124,54 +102,75 @@ module _ {K D : Type 0} (cmp : K → K → Ordering) (laws : Lawful cmp) where
           past = λ x o. g.past x (over_trans cmp laws now p.key x s.0 o);
         }
 
-  -- ---- the walk ends
+  -- ---- two walks side by side
 
-  beyond_short : (k : Option K) (l : List (Part K D)) → length (beyond cmp k l) ≤ length l
-  beyond_short None l = omega arith
-  beyond_short (Some k) [] = omega arith
-  beyond_short (Some k) (p ∷ l) =
-      elim (which (cmp k p.key)) [
-        | less o ↦ rw o (omega arith)
-        | same o ↦ rw o (omega (arith, beyond_short (Some k) l))
-        | greater o ↦ rw o (omega (arith, beyond_short (Some k) l))
-      ]
+  -- the two agree up to a key, and each walk has still to show what is above it
+  pub record Abreast (l m : List (Part K D)) (from : Option K) (left right : List (Part K D)) : Type 0 where
+    pub now : Option K
+    pub agreed : Agreed cmp l m from now
+    pub left_is : left ≡ beyond cmp now l
+    pub right_is : right ≡ beyond cmp now m
 
-  first_falls : (x : Part K D) (l : List (Part K D)) → length (beyond cmp (Some x.key) (x ∷ l)) < length (x ∷ l)
-  first_falls x l = rw (self cmp laws x.key) (omega (arith, beyond_short (Some x.key) l))
+  pub abreast : (l m : List (Part K D)) (from : Option K) → Abreast l m from (beyond cmp from l) (beyond cmp from m)
+  abreast l m from = record { now = from; agreed = agreed_none cmp l m from; left_is = refl; right_is = refl }
 
-  -- a part at or below k is not above what stands above k
-  passed : (k : K) (x p : Part K D) → (cmp k x.key ≡ Equal) ⊎ (cmp k x.key ≡ Greater) → cmp k p.key ≡ Less → cmp p.key x.key ≡ Greater
-  passed k x p c b =
-      less_turned cmp laws x.key p.key
-      (elim c [
-        | inl e ↦ subst (λ (j : K). cmp j p.key ≡ Less) (laws.only k x.key e) b
-        | inr e ↦ laws.trans x.key k p.key (greater_turned cmp laws k x.key e) b
-      ])
+  module _ {l m : List (Part K D)} {from : Option K} {left right : List (Part K D)} (up : Rising cmp l) (um : Rising cmp m) (w : Abreast l m from left right) where
+    left_end : left ≡ [] → None ≡ above cmp w.now l
+    left_end e = beyond_none cmp laws w.now l up (sym w.left_is ∙ e)
 
-  further : (k : K) (x : Part K D) (l : List (Part K D)) (p : Part K D) → Rising cmp (x ∷ l) → (cmp k x.key ≡ Equal) ⊎ (cmp k x.key ≡ Greater) → Some p ≡ above cmp (Some k) l → beyond cmp (Some k) (x ∷ l) ≡ beyond cmp (Some k) l
-      → length (beyond cmp (Some p.key) l) < length (beyond cmp (Some k) l) → length (beyond cmp (Some p.key) (x ∷ l)) < length (beyond cmp (Some k) (x ∷ l))
-  further k x l p h c e f falls =
-      let s = subst (Smallest cmp (λ q. lookup cmp q l) (Some k)) (sym e) (above_smallest cmp laws (Some k) l h.1) in
-      let o : cmp p.key x.key ≡ Greater = passed k x p c s.0 in
-      rw (f, o) falls
+    right_end : right ≡ [] → None ≡ above cmp w.now m
+    right_end e = beyond_none cmp laws w.now m um (sym w.right_is ∙ e)
 
-  -- each part that is shown leaves fewer above
-  pub beyond_falls : (k : Option K) (l : List (Part K D)) (p : Part K D) → Rising cmp l → Some p ≡ above cmp k l → length (beyond cmp (Some p.key) l) < length (beyond cmp k l)
-  beyond_falls None [] p h e = absurd (None≢Some (sym e))
-  beyond_falls None (x ∷ l) p h e = let same : x ≡ p = cc in subst (λ (y : Part K D). length (beyond cmp (Some y.key) (x ∷ l)) < length (x ∷ l)) same (first_falls x l)
-  beyond_falls (Some k) [] p h e = absurd (None≢Some (sym e))
-  beyond_falls (Some k) (x ∷ l) p h e =
-      elim (which (cmp k x.key)) [
-        | less o ↦
-            let shown : ◌≡◌ {A = Option (Part K D)} (Some p) (Some x) = rw o at e in
-            let same : x ≡ p = cc in
-            rw o (subst (λ (y : Part K D). length (beyond cmp (Some y.key) (x ∷ l)) < length (x ∷ l)) same (first_falls x l))
-        | same o ↦ further k x l p h (inl o) (rw o at e) (rw o refl) (beyond_falls (Some k) l p h.1 (rw o at e))
-        | greater o ↦ further k x l p h (inr o) (rw o at e) (rw o refl) (beyond_falls (Some k) l p h.1 (rw o at e))
-      ]
+    left_first : (p : Part K D) (t : List (Part K D)) → left ≡ p ∷ t → (Some p ≡ above cmp w.now l) × (t ≡ beyond cmp (Some p.key) l)
+    left_first p t e = beyond_first cmp laws w.now l t p up (sym w.left_is ∙ e)
+
+    right_first : (q : Part K D) (u : List (Part K D)) → right ≡ q ∷ u → (Some q ≡ above cmp w.now m) × (u ≡ beyond cmp (Some q.key) m)
+    right_first q u e = beyond_first cmp laws w.now m u q um (sym w.right_is ∙ e)
+
+    pub both_end : left ≡ [] → right ≡ [] → Auditing cmp l m from None
+    both_end e f = audit_none l m from w.now up um w.agreed (left_end e) (right_end f)
+
+    pub left_alone : (p : Part K D) (t : List (Part K D)) → left ≡ p ∷ t → right ≡ [] → Auditing cmp l m from (Some p.key)
+    left_alone p t e f = only_left l m from w.now up um w.agreed p (left_first p t e).0 (right_end f)
+
+    pub right_alone : (q : Part K D) (u : List (Part K D)) → left ≡ [] → right ≡ q ∷ u → Auditing cmp l m from (Some q.key)
+    right_alone q u e f = auditing_turned cmp m l from (Some q.key) (only_left m l from w.now um up (agreed_turned cmp w.agreed) q (right_first q u f).0 (left_end e))
+
+    -- the two parts that are shown differ: the answer is the smaller key
+    pub parts_differ : (p q : Part K D) (t u : List (Part K D)) → left ≡ p ∷ t → right ≡ q ∷ u → (p ≡ q → ⊥) → Auditing cmp l m from (Some (ord_min cmp p.key q.key))
+    parts_differ p q t u e f n =
+        let x = (left_first p t e).0 in
+        let y = (right_first q u f).0 in
+        elim (which (cmp p.key q.key)) [
+          | less o ↦ rw (less_turned cmp laws p.key q.key o) (first_left l m from w.now up um w.agreed p q x y o)
+          | same o ↦ rw (ap (cmp q.key) (laws.only p.key q.key o) ∙ self cmp laws q.key) (details_differ l m from w.now up um w.agreed p q x y o (λ d. n (part_path p q (laws.only p.key q.key o) d)))
+          | greater o ↦ rw (greater_turned cmp laws p.key q.key o) (auditing_turned cmp m l from (Some q.key) (first_left m l from w.now um up (agreed_turned cmp w.agreed) q p y x (greater_turned cmp laws p.key q.key o)))
+        ]
+
+    -- they are the same: both walks go on
+    pub parts_agree : (p q : Part K D) (t u : List (Part K D)) → left ≡ p ∷ t → right ≡ q ∷ u → p ≡ q → Abreast l m from t u
+    parts_agree p q t u e f s =
+        let x = left_first p t e in
+        let y = right_first q u f in
+        let k : p.key ≡ q.key = ap (λ (z : Part K D). z.key) s in
+        record {
+          now = Some p.key;
+          agreed = agreed_more l m from w.now up um w.agreed p q x.0 y.0 (ap (cmp p.key) (sym k) ∙ self cmp laws p.key) (ap (λ (z : Part K D). z.details) s);
+          left_is = x.1;
+          right_is = y.1 ∙ ap (λ j. beyond cmp (Some j) m) (sym k);
+        }
 
   -- ---- where all keys are asked for
 
   pub agreeing : (l m : List (Part K D)) (r : Option K) → Rising cmp l → Rising cmp m → Auditing cmp l m None r → Agreeing cmp l m r
   agreeing l m None h g a = extensional cmp laws l m h g (λ q. a q tt)
   agreeing l m (Some j) h g a = λ e. a.1 (ap (lookup cmp j) e)
+
+  -- ---- all audits in turn
+
+  pub in_turn : (s : Comparison K D) (ks : List K) → Drains (Comparing cmp) s ks → Differing cmp s.left s.right s.passed ks
+  in_turn s [] d = subst (λ (t : Comparison K D). Auditing cmp t.left t.right t.passed None) (sym d.1.1) d.1.2.0
+  in_turn s (k ∷ ks) d =
+      let first = d.1.1 in
+      let rest = in_turn first.0 ks (d.0, (d.1.0, first.2, d.1.2)) in
+      (first.1.0, subst (λ (t : Comparison K D). Differing cmp t.left t.right t.passed ks) first.1.1 rest)

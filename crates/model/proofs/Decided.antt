@@ -1,5 +1,6 @@
 -- Staging, booking and withdrawing have exactly one answer each.
 use Rattle.std.proofs.Common.{◌≡◌, ℕ, suc, ◌≤◌, ◌⊎◌, List, [], ◌∷◌, ◌++◌, Some, None, Ok, Err, Option, Result, Ordering, Equal, sym, refl, ap, ◌∙◌, inl, inr, arith}
+use Rattle.std.proofs.lemmas.Option.{none-some}
 use Rattle.std.proofs.lemmas.Bool.{cases_lt, cases_eq}
 use Rattle.der.specs.declared.refusal.Refusal.{Refusal}
 use Rattle.der.specs.declared.refusal.Reason.TheVariants.{ClaimVoid}
@@ -11,7 +12,7 @@ use Rattle.model.specs.Parts.{Is, lookup}
 use Rattle.model.specs.Layers.{AllMet, Delta, Demand, FirstUnmet, Layer, Named, Spending, Staging, change_demands, keeping, meaning, staging_demands, with_booked}
 use Rattle.model.specs.Promise.{CallsDecided, Comparable, OneAnswer}
 use Rattle.model.specs.declared.part.Status.TheVariants.{Added, Modified, Removed}
-use Rattle.model.proofs.Lists.{which, self, Less≢Equal, Greater≢Equal, None≢Some}
+use Rattle.model.proofs.Lists.{which, self, Less≢Equal, Greater≢Equal}
 use Rattle.model.proofs.Lists.Which.{less, same, greater}
 use Rattle.model.proofs.Layering.{modified≢added, removed≢added}
 
@@ -52,7 +53,7 @@ unmet_one (d ∷ ds) r q (inr u) (inr v) = unmet_one ds r q u.1 v.1
 
 none_decided : {A : Type 0} (x : Option A) → Decided (x ≡ None)
 none_decided None = inl refl
-none_decided (Some a) = inr (λ e. None≢Some (sym e))
+none_decided (Some a) = inr (λ e. none-some _ (sym e))
 
 le_decided : (a b : ℕ) → Decided (a ≤ b)
 le_decided a b = elim (cases_lt b a) [ inl h ↦ inr (λ k. omega arith) | inr h ↦ inl h ]
@@ -62,7 +63,7 @@ not_decided d = elim d [ inl p ↦ inr (λ n. n p) | inr n ↦ inl n ]
 
 added_decided : {D : Type 0} (s : Status) (x : Option D) → Decided (s ≡ Added → x ≡ None)
 added_decided Added None = inl (λ e. refl)
-added_decided Added (Some d) = inr (λ f. None≢Some (sym (f refl)))
+added_decided Added (Some d) = inr (λ f. none-some _ (sym (f refl)))
 added_decided Modified x = inl (λ e. absurd (modified≢added e))
 added_decided Removed x = inl (λ e. absurd (removed≢added e))
 
@@ -135,10 +136,10 @@ module _ {K D H : Type 0} (after : Delta K D H → Layer K D H) (s : Layer K D H
       let same : ◌≡◌ {A = Option (Delta K D H)} (Some h.1.0) (Some δ) = sym h.1.1 ∙ k in
       let path : h.1.0 ≡ δ = cc in
       (refl, h.1.2 ∙ ap after path)
-  spent_only δ e k (Err r) t h = absurd (elim h.0.0 [ inl d ↦ d e | inr none ↦ None≢Some (sym none ∙ k) ])
+  spent_only δ e k (Err r) t h = absurd (elim h.0.0 [ inl d ↦ d e | inr none ↦ none-some _ (sym none ∙ k) ])
 
   void_only : (n ≡ s.number → ⊥) ⊎ (s.aside ≡ None) → (a : Result (Unit {0}) Refusal) (t : Layer K D H) → Spending after s n a t → (a ≡ Err (record { reason = ClaimVoid; place = 0 })) × (t ≡ s)
-  void_only v (Ok u) t h = absurd (elim v [ inl d ↦ d h.0 | inr none ↦ None≢Some (sym none ∙ h.1.1) ])
+  void_only v (Ok u) t h = absurd (elim v [ inl d ↦ d h.0 | inr none ↦ none-some _ (sym none ∙ h.1.1) ])
   void_only v (Err r) t h = (let mk : Refusal → Result (Unit {0}) Refusal = λ x. Err x in ap mk h.0.1, h.1)
 
   refusing : (n ≡ s.number → ⊥) ⊎ (s.aside ≡ None) → OneAnswer (Spending after s n)

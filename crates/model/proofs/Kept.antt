@@ -1,5 +1,6 @@
 -- What every run keeps.
 use Rattle.std.proofs.Common.{◌≡◌, ℕ, suc, pred, ◌+◌, ◌≤◌, Bool, true, false, cond, eqb, ◌⊎◌, List, [], ◌∷◌, ◌++◌, length, Some, None, Ok, Err, Option, Ordering, sym, refl, ap, ◌∙◌, subst, inl, inr, append_assoc, append-nil, arith}
+use Rattle.std.proofs.lemmas.Option.{none-some}
 use Rattle.std.proofs.lemmas.Bool.{eq-eqb, ne_eqb, eqb-true, cases_eq}
 use Rattle.model.specs.declared.part.Change.{Change}
 use Rattle.model.specs.Orders.{Lawful}
@@ -9,7 +10,7 @@ use Rattle.model.specs.Layers.{AllMet, Delta, Demand, Layer, Meaning, change_dem
 use Rattle.model.specs.Histories.{Chained, Event, Fresh, Run, Step, alone, booked_in, bookings, bookings_in, changes_of, claims_out, deeds, last_head, last_staged, one, stagings_in, top, withdrawals_in}
 use Rattle.model.specs.Histories.Event.{laid, staged, booked, withdrawn, found, shown, counted, headed}
 use Rattle.model.specs.Histories.Run.{made, called}
-use Rattle.model.proofs.Lists.{None≢Some, AllFit, all_rising, all_append, all_length}
+use Rattle.model.proofs.Lists.{AllFit, all_rising, all_append, all_length}
 use Rattle.model.proofs.Layering.{keys_of, keys_length, keys_all, keys_append, overlaid_all, changes_fit}
 
 -- ---- lists of deltas
@@ -150,7 +151,7 @@ module _ {K D H : Type 0} (cmp : K → K → Ordering) (laws : Lawful cmp) (bott
       chain = g.chain;
       count = g.count;
       bound = g.bound;
-      kept = (rises p g, rw (g.fresh n f), λ δ e. absurd (None≢Some e));
+      kept = (rises p g, rw (g.fresh n f), λ δ e. absurd (none-some _ e));
       few = g.few;
       fresh = λ k h. g.fresh k h.1;
       apart = (f, g.apart);
@@ -204,7 +205,7 @@ module _ {K D H : Type 0} (cmp : K → K → Ordering) (laws : Lawful cmp) (bott
           chain = chain_append δs δ bottom.head g.chain ((g.kept.2 δ e).3 ∙ g.head);
           count = omega (arith, ap length same, all_length cmp laws δ.changes (meaning cmp s).parts (rises (s ∷ below) g) (g.kept.2 δ e).1, g.count, ap additions more, ap removals more, additions_append (changes_of δs) δ.changes, removals_append (changes_of δs) δ.changes);
           bound = rw same (g.kept.2 δ e).2;
-          kept = (g.kept.0, rw (eq-eqb s.number s.number refl) keys, λ x f. absurd (None≢Some f));
+          kept = (g.kept.0, rw (eq-eqb s.number s.number refl) keys, λ x f. absurd (none-some _ f));
           few = λ n.
               elim (decide (eqb n s.number)) [
                 | inl y ↦ rw (y, eqb-true n s.number y, ← keys, keys_length) (g.kept.2 δ e).4
@@ -227,7 +228,7 @@ module _ {K D H : Type 0} (cmp : K → K → Ordering) (laws : Lawful cmp) (bott
           chain = g.chain;
           count = g.count;
           bound = g.bound;
-          kept = (g.kept.0, g.kept.1, λ x f. absurd (None≢Some f));
+          kept = (g.kept.0, g.kept.1, λ x f. absurd (none-some _ f));
           few = g.few;
           fresh = g.fresh;
           apart = g.apart;

@@ -1,5 +1,5 @@
 -- What a layer remembers, laid over what it took over, is its booked changes applied in their order. Changes whose demands are met fit.
-use Rattle.std.proofs.Common.{◌≡◌, ℕ, suc, List, [], ◌∷◌, ◌++◌, length, None, Option, Ordering, Less, Equal, Greater, sym, refl, ap, ◌∙◌, inl, inr, arith}
+use Rattle.std.proofs.Common.{◌≡◌, ℕ, suc, List, [], ◌∷◌, ◌++◌, length, None, Option, Ordering, Less, Equal, Greater, sym, refl, ap, ◌∙◌, inl, inr}
 use Rattle.model.specs.declared.part.Part.{Part}
 use Rattle.model.specs.declared.part.Change.{Change}
 use Rattle.model.specs.declared.part.Status.{Status}
@@ -13,10 +13,10 @@ use Rattle.model.proofs.Lists.{which, if_same_other, Less≢Equal, Greater≢Equ
 use Rattle.model.proofs.Lists.Which.{less, same, greater}
 
 pub modified≢added : Modified ≡ Added → ⊥
-modified≢added e = let z : ◌≡◌ {A = ℕ} 0 1 = cc in omega arith
+modified≢added e = cc
 
 pub removed≢added : Removed ≡ Added → ⊥
-removed≢added e = let z : ◌≡◌ {A = ℕ} 0 1 = cc in omega arith
+removed≢added e = cc
 
 fit : {D : Type 0} (s : Status) (x : Option D) → (s ≡ Added → x ≡ None) → ((s ≡ Added → ⊥) → Is x) → Fits s x
 fit Added x a b = a refl

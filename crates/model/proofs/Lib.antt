@@ -8,3 +8,5 @@ pub mod Kept
 pub mod Tells
 pub mod Decided
 pub mod Story
+pub mod Walks
+pub mod PartLaws

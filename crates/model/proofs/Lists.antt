@@ -1,12 +1,12 @@
 -- The laws of rising part lists.
-use Rattle.std.proofs.Common.{◌≡◌, ℕ, suc, ◌+◌, List, [], ◌∷◌, ◌++◌, length, Some, None, Option, Ordering, Less, Equal, Greater, sym, refl, ap, ◌∙◌, subst, arith}
+use Rattle.std.proofs.Common.{◌≡◌, suc, ◌+◌, List, [], ◌∷◌, ◌++◌, length, Some, None, Option, Ordering, Less, Equal, Greater, sym, refl, ap, ◌∙◌, subst, arith}
+use Rattle.std.proofs.lemmas.Option.{none-some}
 use Rattle.std.specs.Option.{option_or}
 use Rattle.model.specs.declared.part.Part.{Part}
 use Rattle.model.specs.declared.part.Change.{Change}
 use Rattle.model.specs.declared.part.Status.{Status}
 use Rattle.model.specs.Orders.{Lawful, by, if_same}
 use Rattle.model.specs.Parts.{AllAbove, Is, Over, Rising, Smallest, above, cut, lookup, put, settle}
-use Rattle.model.specs.Laws.{PartLaws}
 use Rattle.model.specs.Changes.{additions, adds, applied, applied_all, by_status, latest, removals, removes, said, said_or}
 use Rattle.model.specs.declared.part.Status.TheVariants.{Added, Modified, Removed}
 
@@ -22,22 +22,19 @@ which Equal = same refl
 which Greater = greater refl
 
 pub Less≢Equal : {o : Ordering} → o ≡ Less → o ≡ Equal → ⊥
-Less≢Equal e f = let z : ◌≡◌ {A = ℕ} 0 1 = cc in omega arith
+Less≢Equal e f = cc
 
 pub Greater≢Equal : {o : Ordering} → o ≡ Greater → o ≡ Equal → ⊥
-Greater≢Equal e f = let z : ◌≡◌ {A = ℕ} 0 1 = cc in omega arith
+Greater≢Equal e f = cc
 
 pub Less≢Greater : {o : Ordering} → o ≡ Less → o ≡ Greater → ⊥
-Less≢Greater e f = let z : ◌≡◌ {A = ℕ} 0 1 = cc in omega arith
+Less≢Greater e f = cc
 
 -- where two keys differ, it does not matter which is above
 pub if_same_other : {A : Type 0} (o : Ordering) (x y : A) → (o ≡ Equal → ⊥) → if_same o x y ≡ y
 if_same_other Less x y n = refl
 if_same_other Equal x y n = absurd (n refl)
 if_same_other Greater x y n = refl
-
-pub None≢Some : {A : Type 0} {x : A} → ◌≡◌ {A = Option A} None (Some x) → ⊥
-None≢Some e = let z : ◌≡◌ {A = ℕ} 0 1 = cc in omega arith
 
 pub part_path : {K D : Type 0} (p q : Part K D) → p.key ≡ q.key → p.details ≡ q.details → p ≡ q
 part_path p q e f = λ i. record { key = e i; details = f i }
@@ -180,7 +177,7 @@ module _ {K D : Type 0} (cmp : K → K → Ordering) (laws : Lawful cmp) where
   put_grows k d (p ∷ l) n =
       elim (which (cmp k p.key)) [
         | less o ↦ rw o
-        | same o ↦ absurd (None≢Some (sym (rw o at n)))
+        | same o ↦ absurd (none-some _ (sym (rw o at n)))
         | greater o ↦ rw o (ap suc (put_grows k d l (rw o at n)))
       ]
 
@@ -207,7 +204,7 @@ module _ {K D : Type 0} (cmp : K → K → Ordering) (laws : Lawful cmp) where
   cut_keeps k (p ∷ l) n =
       elim (which (cmp k p.key)) [
         | less o ↦ rw o
-        | same o ↦ absurd (None≢Some (sym (rw o at n)))
+        | same o ↦ absurd (none-some _ (sym (rw o at n)))
         | greater o ↦ rw o (ap {B = List (Part K D)} (λ r. p ∷ r) (cut_keeps k l (rw o at n)))
       ]
 
@@ -224,11 +221,11 @@ module _ {K D : Type 0} (cmp : K → K → Ordering) (laws : Lawful cmp) where
 
   pub extensional : (l m : List (Part K D)) → Rising cmp l → Rising cmp m → ((k : K) → lookup cmp k l ≡ lookup cmp k m) → l ≡ m
   extensional [] [] h g f = refl
-  extensional [] (q ∷ m) h g f = absurd (None≢Some (f q.key ∙ here q m))
-  extensional (p ∷ l) [] h g f = absurd (None≢Some (sym (f p.key) ∙ here p l))
+  extensional [] (q ∷ m) h g f = absurd (none-some _ (f q.key ∙ here q m))
+  extensional (p ∷ l) [] h g f = absurd (none-some _ (sym (f p.key) ∙ here p l))
   extensional (p ∷ l) (q ∷ m) h g f =
       elim (which (cmp p.key q.key)) [
-        | less o ↦ absurd (None≢Some (sym (absent p.key (q ∷ m) (o, lower p.key q.key m o g.0)) ∙ sym (f p.key) ∙ here p l))
+        | less o ↦ absurd (none-some _ (sym (absent p.key (q ∷ m) (o, lower p.key q.key m o g.0)) ∙ sym (f p.key) ∙ here p l))
         | same o ↦
             let e : p.key ≡ q.key = laws.only p.key q.key o in
             let d : ◌≡◌ {A = Option D} (Some p.details) (Some q.details) =
@@ -238,7 +235,7 @@ module _ {K D : Type 0} (cmp : K → K → Ordering) (laws : Lawful cmp) where
             cc
         | greater o ↦
             let u : cmp q.key p.key ≡ Less = greater_turned cmp laws p.key q.key o in
-            absurd (None≢Some (sym (absent q.key (p ∷ l) (u, lower q.key p.key l u h.0)) ∙ f q.key ∙ here q m))
+            absurd (none-some _ (sym (absent q.key (p ∷ l) (u, lower q.key p.key l u h.0)) ∙ f q.key ∙ here q m))
       ]
 
   -- ---- settle, by one law for every key
@@ -303,17 +300,17 @@ module _ {K D : Type 0} (cmp : K → K → Ordering) (laws : Lawful cmp) where
 
   pub smallest_one : (t : K → Option D) (k : Option K) (a b : Option (Part K D)) → Smallest cmp t k a → Smallest cmp t k b → a ≡ b
   smallest_one t k None None x y = refl
-  smallest_one t k None (Some p) x y = absurd (None≢Some (sym (x p.key y.0) ∙ y.1))
-  smallest_one t k (Some p) None x y = absurd (None≢Some (sym (y p.key x.0) ∙ x.1))
+  smallest_one t k None (Some p) x y = absurd (none-some _ (sym (x p.key y.0) ∙ y.1))
+  smallest_one t k (Some p) None x y = absurd (none-some _ (sym (y p.key x.0) ∙ x.1))
   smallest_one t k (Some p) (Some q) x y =
       elim (which (cmp p.key q.key)) [
-        | less o ↦ absurd (None≢Some (sym (y.2 p.key x.0 o) ∙ x.1))
+        | less o ↦ absurd (none-some _ (sym (y.2 p.key x.0 o) ∙ x.1))
         | same o ↦
             let e : p.key ≡ q.key = laws.only p.key q.key o in
             let d : ◌≡◌ {A = Option D} (Some p.details) (Some q.details) = sym x.1 ∙ ap t e ∙ y.1 in
             let pq : p ≡ q = part_path p q e (cc) in
             cc
-        | greater o ↦ absurd (None≢Some (sym (x.2 q.key y.0 (greater_turned cmp laws p.key q.key o)) ∙ y.1))
+        | greater o ↦ absurd (none-some _ (sym (x.2 q.key y.0 (greater_turned cmp laws p.key q.key o)) ∙ y.1))
       ]
 
   first_smallest : (k : Option K) (p : Part K D) (l : List (Part K D)) → Rising cmp (p ∷ l) → Over cmp k p.key → Smallest cmp (λ q. lookup cmp q (p ∷ l)) k (Some p)
@@ -352,28 +349,10 @@ module _ {K D : Type 0} (cmp : K → K → Ordering) (laws : Lawful cmp) where
 
   pub walks_one : (m : List (Part K D)) (k : Option K) (l n : List (Part K D)) → Walks cmp m k l → Walks cmp m k n → l ≡ n
   walks_one m k [] [] w v = refl
-  walks_one m k [] (q ∷ n) w v = absurd (None≢Some (w ∙ sym v.0))
-  walks_one m k (p ∷ l) [] w v = absurd (None≢Some (v ∙ sym w.0))
+  walks_one m k [] (q ∷ n) w v = absurd (none-some _ (w ∙ sym v.0))
+  walks_one m k (p ∷ l) [] w v = absurd (none-some _ (v ∙ sym w.0))
   walks_one m k (p ∷ l) (q ∷ n) w v =
       let e : ◌≡◌ {A = Option (Part K D)} (Some p) (Some q) = w.0 ∙ sym v.0 in
       let pq : p ≡ q = cc in
       let r : l ≡ n = walks_one m (Some q.key) l n (rw pq at w.1) v.1 in
       cc
-
-  -- ---- all of it
-
-  pub part_laws : PartLaws K D cmp
-  part_laws = record {
-    put_same = put_same;
-    put_other = put_other;
-    put_rising = put_rising;
-    put_grows = put_grows;
-    put_keeps = put_keeps;
-    cut_same = cut_same;
-    cut_other = cut_other;
-    cut_rising = cut_rising;
-    cut_shrinks = cut_shrinks;
-    cut_keeps = cut_keeps;
-    extensional = extensional;
-    above_smallest = above_smallest;
-  }

@@ -1,6 +1,6 @@
 -- The sample history happens.
-use Rattle.std.proofs.Common.{◌≡◌, ℕ, ◌⊎◌, [], ◌∷◌, Some, None, Ok, Err, Equal, refl, inl, inr, arith}
-use Rattle.std.specs.Cmp.{ranks, means, below_irrefl, below_chain, nat_cmp_total}
+use Rattle.std.proofs.Common.{◌≡◌, ℕ, ◌⊎◌, [], ◌∷◌, Some, None, Ok, Err, sym, ap, ◌∙◌, refl, inl, inr, arith}
+use Rattle.std.specs.Cmp.{nat_cmp_total, unsigned_tied, unsigned_Decides}
 use Rattle.model.specs.Orders.{Lawful}
 use Rattle.model.specs.Layers.{Layer, AllMet, staging_demands, keeping, with_booked}
 use Rattle.model.specs.Histories.{Run}
@@ -8,12 +8,12 @@ use Rattle.model.specs.Histories.Event.{laid, staged, booked}
 use Rattle.model.specs.Histories.Run.{made, called}
 use Rattle.model.specs.Sample.{delivered, exchange, older, not_head, Happens}
 use Rattle.model.proofs.Layering.{removed≢added}
-use Rattle.std.specs.Ordering.{nat_cmp}
+use Rattle.std.specs.Ordering.{is_eq, nat_cmp}
 
 numbers_lawful : Lawful nat_cmp
 numbers_lawful = record {
   turned = λ a b. nat_cmp_total.antisymm b a;
-  only = λ a b e. means _ below_irrefl below_chain nat_cmp ranks a b Equal e;
+  only = λ a b e. (unsigned_Decides a b).0 (sym (unsigned_tied a b) ∙ ap is_eq e);
   trans = nat_cmp_total.trans;
 }
 

@@ -57,6 +57,12 @@ module _ {K D : Type 0} (cmp : K → K → Ordering) where
   above (Some k) [] = None
   above (Some k) (p ∷ l) = by (cmp k p.key) (Some p) (above (Some k) l) (above (Some k) l)
 
+  -- the parts above k, or all where there is no k
+  abbrev pub beyond : Option K → List (Part K D) → List (Part K D)
+  beyond None l = l
+  beyond (Some k) [] = []
+  beyond (Some k) (p ∷ l) = by (cmp k p.key) (p ∷ l) (beyond (Some k) l) (beyond (Some k) l)
+
   -- the questions of an inventory that means l: find answers the details of the key, or none
   abbrev pub Finding : List (Part K D) → K → Option D → Type 0
   Finding l k a = a ≡ lookup k l

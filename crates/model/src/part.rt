@@ -1,6 +1,6 @@
 // Parts, changes of parts, and what a layer remembers of a key; generic in the key and in the details.
 
-#[derive(Clone, Copy)]
+#[derive(Clone, Copy, PartialEq, Eq)]
 pub struct Part<K, D> {
     pub key: K,
     pub details: D,

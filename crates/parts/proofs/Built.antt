@@ -11,7 +11,7 @@ use Rattle.parts.specs.declared.key.Registry.{Registry}
 use Rattle.parts.specs.declared.key.Registry.TheVariants.{Tcg, Dmtf, Pcie, Storage}
 use Rattle.parts.specs.declared.details.Details.{Details}
 use Rattle.parts.specs.Bounds.{content, is_bounded}
-use Rattle.parts.specs.Keys.{Fields, fields_of, number_of, registry_of, is_text, key_of}
+use Rattle.parts.specs.Keys.{Fields, fields_of, number_of, registry_of, key_of}
 use Rattle.parts.specs.Details.{Facts, facts_of, replaceable_of, with_replaceable, details_of}
 use Rattle.parts.proofs.Same.{same_content, content_length}
 use Rattle.parts.proofs.Lawful.{key_only}
@@ -106,12 +106,12 @@ key_from_lem f g = λ i. record {
   serial = bounded_or_lem blank f.serial g.serial.0 g.serial.1 i;
 }
 
-is_text_lem : (xs : List ℕ) → (1 ≤ length xs) × (length xs ≤ 64) → is_text xs ≡ true
-is_text_lem xs h = let a = h.0 in let b = h.1 in grind (arith, nat_tests)
+bounds_met : (least most : ℕ) (xs : List ℕ) → (least ≤ length xs) × (length xs ≤ most) → is_bounded least most xs ≡ true
+bounds_met least most xs h = let a = h.0 in let b = h.1 in grind (arith, nat_tests)
 
 -- good fields are those of a key, and the key that a making answers is the one built from them
 pub fields_made : (f : Fields) → Good f → key_of f ≡ Ok f
-fields_made f g = rw (g.registry, is_text_lem f.maker g.maker, is_text_lem f.model g.model, is_text_lem f.serial g.serial) refl
+fields_made f g = rw (g.registry, bounds_met 1 64 f.maker g.maker, bounds_met 1 64 f.model g.model, bounds_met 1 64 f.serial g.serial) refl
 
 pub key_made : (f : Fields) (k : Key) → Good f → Ok (fields_of k) ≡ key_of f → k ≡ key_from f
 key_made f k g e =
@@ -143,40 +143,37 @@ abbrev facts : List ℕ → Option Bool → Facts
 facts xs r = record { revision = xs; replaceable = r }
 
 facts_made : (revision : List ℕ) (x : Option (Option Bool)) (f : Facts) → Ok f ≡ with_replaceable revision x → f ≡ record { revision = revision; replaceable = known_or x }
-facts_made revision None f e = let z : ◌≡◌ {A = ℕ} 0 1 = cc in let never : ⊥ = omega arith in absurd never
+facts_made revision None f e = cc
 facts_made revision (Some r) f e = cc
-
-within : (xs : List ℕ) → length xs ≤ 64 → is_bounded 0 64 xs ≡ true
-within xs h = grind (arith, nat_tests)
 
 -- the details that a making answers are those built from the same fields
 pub details_made : (revision : List ℕ) (n : ℕ) (d : Details) → length revision ≤ 64 → Ok (facts_of d) ≡ details_of revision n → d ≡ details_from revision n
 details_made revision n d h e =
-    let good : details_of revision n ≡ with_replaceable revision (replaceable_of n) = rw (within revision h) refl in
+    let good : details_of revision n ≡ with_replaceable revision (replaceable_of n) = rw (bounds_met 0 64 revision (omega arith, h)) refl in
     let f : facts_of d ≡ record { revision = revision; replaceable = known_or (replaceable_of n) } = facts_made revision (replaceable_of n) (facts_of d) (e ∙ good) in
     let held : content (bounded_or none revision) ≡ revision = bounded_or_lem none revision (omega arith) h in
     details_only d (details_from revision n) (f ∙ ap (λ (xs : List ℕ). facts xs (known_or (replaceable_of n))) (sym held))
 
 -- ---- back again
 
-text_good : (t : Bounded 1 64) → (1 ≤ length (content t)) × (length (content t) ≤ 64)
-text_good t = let n = content_length t in let a = t.least in let b = t.within in (omega arith, omega arith)
+content_bounds : {least most : ℕ} (t : Bounded least most) → (least ≤ length (content t)) × (length (content t) ≤ most)
+content_bounds t = let n = content_length t in let a = t.least in let b = t.within in (omega arith, omega arith)
 
 -- the fields of a key are good, and the key built from them is the key
 pub good_fields : (k : Key) → Good (fields_of k)
 good_fields k = record {
   registry = elim k.registry as (λ r. is_some (registry_of (number_of r)) ≡ true) [ Tcg ↦ refl | Dmtf ↦ refl | Pcie ↦ refl | Storage ↦ refl ];
   class = k.four;
-  maker = text_good k.maker;
-  model = text_good k.model;
-  serial = text_good k.serial;
+  maker = content_bounds k.maker;
+  model = content_bounds k.model;
+  serial = content_bounds k.serial;
 }
 
 pub key_back : (k : Key) → key_from (fields_of k) ≡ k
 key_back k = key_only (key_from (fields_of k)) k (key_from_lem (fields_of k) (good_fields k))
 
 pub revision_small : (d : Details) → length (content d.revision) ≤ 64
-revision_small d = let n = content_length d.revision in let b = d.revision.within in omega arith
+revision_small d = (content_bounds d.revision).1
 
 pub details_back : (d : Details) (n : ℕ) → replaceable_of n ≡ Some d.replaceable → details_from (content d.revision) n ≡ d
 details_back d n e =

@@ -6,7 +6,7 @@ use native.Mathlib.Nat.{ℕ_set}
 use native.Mathlib.Bridge.{le_prop}
 use Rattle.std.proofs.lemmas.List.{length-take-le, take-append-drop}
 use Rattle.std.proofs.lemmas.Slice.Eq.{bytes_eq-Decides}
-use Rattle.std.proofs.lemmas.Bool.Decides.{Decides-and, Decides-at}
+use Rattle.std.proofs.lemmas.Bool.Decides.{Decides-and, Decides-at, Decides-like}
 use Rattle.std.specs.Bool.{Decides}
 use Rattle.std.specs.Cmp.{booleans_Decides}
 use Rattle.std.specs.Option.{option_eq}
@@ -41,26 +41,25 @@ module _ {least most : ℕ} where
 
 -- ---- what a comparison field by field decides
 
-through : {b : Bool} {P Q : Type 0} → Decides b P → (P → Q) → (Q → P) → Decides b Q
-through d f g = (λ e. f (d.0 e), λ q. d.1 (g q))
-
 option_decides : {X : Type 0} {E : X → X → Bool} → ((x y : X) → Decides (E x y) (x ≡ y)) → (a b : Option X) → Decides (option_eq E a b) (a ≡ b)
 option_decides d None None = (λ e. refl, λ e. refl)
 option_decides d None (Some y) = (λ e. cc, λ e. cc)
 option_decides d (Some x) None = (λ e. cc, λ e. cc)
-option_decides d (Some x) (Some y) = through (d x y) (λ e. ap (λ z. Some z) e) (λ e. ap (λ o. unwrap_or o x) e)
+option_decides {E = E} d (Some x) (Some y) = Decides-like (E x y) (λ e. ap (λ z. Some z) e) (λ e. ap (λ o. unwrap_or o x) e) (d x y)
 
-details_decides : (s t : Details) → Decides (details_equal s t) (s ≡ t)
+pub details_decides : (s t : Details) → Decides (details_equal s t) (s ≡ t)
 details_decides s t =
-    through (Decides-and _ _ (hold_same_decides s.revision t.revision) (option_decides booleans_Decides s.replaceable t.replaceable))
+    Decides-like (details_equal s t)
     (λ h i. record { revision = h.0 i; replaceable = h.1 i })
     (λ e. (ap (λ (d : Details). d.revision) e, ap (λ (d : Details). d.replaceable) e))
+    (Decides-and _ _ (hold_same_decides s.revision t.revision) (option_decides booleans_Decides s.replaceable t.replaceable))
 
 head_decides : (s t : Head) → Decides (head_equal s t) (s ≡ t)
 head_decides s t =
-    through (Decides-and _ _ (hold_same_decides s.issuer t.issuer) (hold_same_decides s.serial t.serial))
+    Decides-like (head_equal s t)
     (λ h i. record { issuer = h.0 i; serial = h.1 i })
     (λ e. (ap (λ (d : Head). d.issuer) e, ap (λ (d : Head). d.serial) e))
+    (Decides-and _ _ (hold_same_decides s.issuer t.issuer) (hold_same_decides s.serial t.serial))
 
 pub equal_is_same : EqualIsSame
 equal_is_same = record { bounded = λ least most s t. hold_same_decides s t; details = details_decides; head = head_decides }

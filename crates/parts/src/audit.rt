@@ -1,14 +1,45 @@
 // Two inventories compared.
-ghost use Rattle.std.specs.Prelude.{Some, None};
-ghost use Rattle.model.specs.Parts.{Showing};
-ghost use Rattle.model.specs.Audits.{Auditing, Agreeing};
+ghost use Rattle.std.specs.Prelude.{◌≡◌, List, Some, None};
+ghost use Rattle.std.specs.Iterator.{Drains, at_most};
+ghost use Rattle.model.specs.Audits.{Auditing, Agreeing, Differing, Comparison, compared, Comparing, most_answers};
+ghost use Rattle.parts.specs.declared.key.Key.{Key};
+ghost use Rattle.parts.specs.declared.details.Details.{Details};
 ghost use Rattle.parts.specs.Keys.{order};
 
-use crate::details::Details;
-use crate::inventory::{Inventory, first};
+use crate::inventory::Inventory;
 use crate::key::Key;
-use model::part::Part;
-use std::cmp::Ordering;
+use crate::walk::walk_above;
+use std::marker::Model;
+
+// Two inventories, and the key last answered: the differences above it are still to be answered.
+#[derive(Drop)]
+pub struct Audits<'a, A: Inventory, B: Inventory> {
+    a: &'a A,
+    b: &'a B,
+    passed: Option<Key>,
+}
+
+impl<'a, A: Inventory, B: Inventory> Model for Audits<'a, A, B> {
+    ghost Value = { Comparison Key Details };
+
+    ghost view = { λ d. compared (A.Inventory.parts d.a.now) (B.Inventory.parts d.b.now) d.passed };
+
+    ghost invariant = { λ d. (A.Inventory.bounded d.a.now) × (B.Inventory.bounded d.b.now) };
+}
+
+impl<'a, A: Inventory, B: Inventory> Iterator for Audits<'a, A, B> {
+    type Item = Key;
+
+    ghost next_gives = { Comparing order };
+
+    ghost remaining = { λ d. at_most (most_answers order d) };
+
+    fn next(&mut self) -> Option<Key> {
+        let key = audit_from(self.a, self.b, self.passed)?;
+        self.passed = Some(key);
+        Some(key)
+    }
+}
 
 // The smallest key whose answers to find differ, or none where all agree; the two then have the same parts.
 pub fn audit<A: Inventory, B: Inventory>(a: &A, b: &B) -> Option<Key>
@@ -27,42 +58,32 @@ pub fn audit_above<A: Inventory, B: Inventory>(a: &A, b: &B, above: &Key) -> Opt
     audit_from(a, b, Some(*above))
 }
 
-// Walks both side by side from a key on, as long as they show the same.
+// All keys whose answers to find differ, rising: each is what an audit above the one before answers.
+pub fn differences<'a, A: Inventory, B: Inventory>(a: &'a A, b: &'a B) -> Audits<'a, A, B>
+    requires { (A.Inventory.bounded a.now) × (B.Inventory.bounded b.now) }
+    ensures begun { result ≡ compared (A.Inventory.parts a.now) (B.Inventory.parts b.now) None }
+    ensures listed { (keys : List Key) → Drains (Comparing order) result keys → Differing order (A.Inventory.parts a.now) (B.Inventory.parts b.now) None keys }
+{
+    Audits { a, b, passed: None }
+}
+
+// Walks both side by side from a key on, as long as they show the same. No `zip`, which ends where the shorter does.
 fn audit_from<A: Inventory, B: Inventory>(a: &A, b: &B, from: Option<Key>) -> Option<Key>
     requires { (A.Inventory.bounded a.now) × (B.Inventory.bounded b.now) }
     ensures { Auditing order (A.Inventory.parts a.now) (B.Inventory.parts b.now) from result }
 {
-    let mut passed = from;
+    let mut left = walk_above(a, from);
+    let mut right = walk_above(b, from);
     loop {
-        let left = next_after(a, passed);
-        let right = next_after(b, passed);
-        let Some(p) = left else {
-            return match right {
-                Some(q) => Some(q.key),
-                None => None,
-            };
-        };
-        let Some(q) = right else {
-            return Some(p.key);
-        };
-        match p.key.compare(&q.key) {
-            Ordering::Less => return Some(p.key),
-            Ordering::Greater => return Some(q.key),
-            Ordering::Equal => {}
+        match (left.next(), right.next()) {
+            (None, None) => return None,
+            (Some(p), None) => return Some(p.key),
+            (None, Some(q)) => return Some(q.key),
+            (Some(p), Some(q)) => {
+                if p != q {
+                    return Some(p.key.min(q.key));
+                }
+            }
         }
-        if !p.details.same(&q.details) {
-            return Some(p.key);
-        }
-        passed = Some(p.key);
-    }
-}
-
-fn next_after<I: Inventory>(inventory: &I, passed: Option<Key>) -> Option<Part<Key, Details>>
-    requires { I.Inventory.bounded inventory.now }
-    ensures { Showing order (I.Inventory.parts inventory.now) passed result }
-{
-    match passed {
-        None => first(inventory),
-        Some(key) => inventory.next(Some(&key)),
     }
 }

@@ -4,6 +4,7 @@ ghost use Rattle.std.specs.Prelude.{◌≡◌, ◌-◌, ◌≤◌, length, drop,
 pub mod calls;
 
 // At least LEAST and at most MOST bytes. Behind the content there are zeros, so that equal contents are equal values.
+// An array and no vector, since keys and details are copied, and the library allocates nothing.
 #[derive(Clone, Copy)]
 pub struct Bounded<const LEAST: usize, const MOST: usize> {
     len: usize,
@@ -17,7 +18,7 @@ pub struct Bounded<const LEAST: usize, const MOST: usize> {
 // A text of a key: maker, model or serial text.
 pub type Text = Bounded<1, 64>;
 
-// A revision; a missing one has length 0.
+// A revision; a missing one has length 0, and is no `Option`, since this is its form in the details of a part.
 pub type Revision = Bounded<0, 64>;
 
 // A name: who issued a certificate.

@@ -11,7 +11,7 @@ pub struct Head {
 }
 
 impl Head {
-    // Whether two heads are the same: issuer and serial.
+    // Whether two heads are the same: issuer and serial. Beside `==`, since a derived one has no clause that says so.
     pub fn same(&self, other: &Head) -> bool
         ensures { Decides result (self.now ≡ other.now) }
     {

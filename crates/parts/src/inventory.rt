@@ -56,12 +56,5 @@ pub fn first<I: Inventory>(inventory: &I) -> Option<Part<Key, Details>>
     requires { I.Inventory.bounded inventory.now }
     ensures { Showing order (I.Inventory.parts inventory.now) None result }
 {
-    inventory.next(no_key())
-}
-
-// No key. Written in place it would be a reference that nothing lends, which the checker does not cover.
-fn no_key<'a>() -> Option<&'a Key>
-    ensures { result ≡ None }
-{
-    None
+    inventory.next(None)
 }

@@ -10,3 +10,4 @@ pub mod key;
 pub mod laws;
 #[cfg(test)]
 mod tests;
+pub mod walk;

@@ -8,7 +8,7 @@ use std::cmp::Ordering;
 fn told<T: Drop>(answer: Result<T, Refusal>) -> (u8, usize) {
     match answer {
         Ok(_) => (0, 0),
-        Err(refusal) => (refusal.reason.number(), refusal.place),
+        Err(refusal) => (u8::from(refusal.reason), refusal.place),
     }
 }
 

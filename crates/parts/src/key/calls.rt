@@ -1,35 +1,39 @@
 // Making, reading and comparing keys.
 ghost use Rattle.std.specs.Prelude.{◌≡◌};
+ghost use Rattle.std.specs.Result.{result_ok};
 ghost use Rattle.parts.specs.Bytewise.{lexed};
 ghost use Rattle.parts.specs.Keys.{registry_of, number_of, fields_of, lent_fields, in_turn, said, read, key_of, order};
 
 use crate::bounded::Text;
-use crate::key::{Key, LentKey, Registry};
+use crate::key::{Key, LentKey, Registry, UnknownRegistry};
 use der::refusal::{Reason, Refusal};
 use std::cmp::Ordering;
 
-impl Registry {
-    // The registry with a number, or none.
-    pub fn of(number: u8) -> Option<Registry>
-        ensures { result ≡ registry_of number }
-    {
-        match number {
-            1 => Some(Registry::Tcg),
-            2 => Some(Registry::Dmtf),
-            3 => Some(Registry::Pcie),
-            4 => Some(Registry::Storage),
-            _ => None,
-        }
-    }
+impl TryFrom<u8> for Registry {
+    type Error = UnknownRegistry;
 
-    pub fn number(self) -> u8
-        ensures { result ≡ number_of self }
-    {
-        self as u8
+    ghost try_from_gives = { λ number answer. result_ok answer ≡ registry_of number };
+
+    fn try_from(number: u8) -> Result<Registry, UnknownRegistry> {
+        match number {
+            1 => Ok(Registry::Tcg),
+            2 => Ok(Registry::Dmtf),
+            3 => Ok(Registry::Pcie),
+            4 => Ok(Registry::Storage),
+            _ => Err(UnknownRegistry),
+        }
     }
 }
 
-// Byte by byte, a proper beginning first.
+impl From<Registry> for u8 {
+    ghost from_gives = { λ registry number. number ≡ number_of registry };
+
+    fn from(registry: Registry) -> u8 {
+        registry as u8
+    }
+}
+
+// Byte by byte, a proper beginning first. The library's order, with a clause of its own that other contracts cite.
 pub fn bytewise(a: &[u8], b: &[u8]) -> Ordering
     ensures { result ≡ lexed a.now b.now }
 {
@@ -37,7 +41,8 @@ pub fn bytewise(a: &[u8], b: &[u8]) -> Ordering
 }
 
 impl Key {
-    // The key with these fields. The first faulty one is refused, at its number from 0.
+    // The key with these fields. The first faulty one is refused, at its number from 0; so the registry comes as a number,
+    // which may be none.
     pub fn new(
         registry: u8,
         class: [u8; 4],
@@ -47,18 +52,10 @@ impl Key {
     ) -> Result<Key, Refusal>
         ensures { read result ≡ key_of (said registry class maker.now model.now serial.now) }
     {
-        let Some(registry) = Registry::of(registry) else {
-            return Err(Reason::BadContent.at(0));
-        };
-        let Some(maker) = Text::new(maker) else {
-            return Err(Reason::TextSize.at(2));
-        };
-        let Some(model) = Text::new(model) else {
-            return Err(Reason::TextSize.at(3));
-        };
-        let Some(serial) = Text::new(serial) else {
-            return Err(Reason::TextSize.at(4));
-        };
+        let registry = Registry::try_from(registry).map_err(|_| Reason::BadContent.at(0))?;
+        let maker = Text::new(maker).ok_or(Reason::TextSize.at(2))?;
+        let model = Text::new(model).ok_or(Reason::TextSize.at(3))?;
+        let serial = Text::new(serial).ok_or(Reason::TextSize.at(4))?;
         Ok(Key {
             registry,
             class,
@@ -68,12 +65,19 @@ impl Key {
         })
     }
 
+    // The registry that its class comes from.
+    pub fn registry(&self) -> Registry
+        ensures { result ≡ self.now.registry }
+    {
+        self.registry
+    }
+
     // The fields, lent.
     pub fn fields(&self) -> LentKey<'_>
         ensures { lent_fields result ≡ fields_of self.now }
     {
         LentKey {
-            registry: self.registry.number(),
+            registry: u8::from(self.registry),
             class: &self.class,
             maker: self.maker.held(),
             model: self.model.held(),
@@ -88,37 +92,19 @@ impl Key {
         self.fields().compare_lent(other)
     }
 
-    // The order of keys.
+    // The order of keys. Beside `cmp`, since a derived one has no clause in terms of the definition.
     pub fn compare(&self, other: &Key) -> Ordering
         ensures { result ≡ order self.now other.now }
     {
-        self.against(other.fields())
+        self.cmp(other)
     }
 }
 
 impl LentKey<'_> {
-    // By the fields in turn: each is compared only where the ones before it are equal.
+    // By the fields in turn: each is compared only where the ones before it are equal. Beside `cmp`, as above.
     pub fn compare_lent(self, other: LentKey<'_>) -> Ordering
         ensures { result ≡ in_turn (lent_fields self.entry) (lent_fields other.entry) }
     {
-        if self.registry < other.registry {
-            return Ordering::Less;
-        }
-        if self.registry > other.registry {
-            return Ordering::Greater;
-        }
-        match bytewise(self.class, other.class) {
-            Ordering::Equal => {}
-            found => return found,
-        }
-        match bytewise(self.maker, other.maker) {
-            Ordering::Equal => {}
-            found => return found,
-        }
-        match bytewise(self.model, other.model) {
-            Ordering::Equal => {}
-            found => return found,
-        }
-        bytewise(self.serial, other.serial)
+        self.cmp(&other)
     }
 }

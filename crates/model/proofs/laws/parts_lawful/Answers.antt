@@ -1,4 +1,4 @@
-use Rattle.model.proofs.Lists.{part_laws}
+use Rattle.model.proofs.PartLaws.{part_laws}
 use Rattle.model.proofs.laws.parts_lawful.Goals as goal
 
 pub returns : goal.returns

@@ -1,10 +1,7 @@
-use Rattle.std.proofs.Common.{length}
-use Rattle.model.proofs.Audit.{Agreed, beyond}
+use Rattle.model.proofs.Audit.{Abreast}
 use Rattle.parts.specs.Keys.{order}
+use Rattle.parts.proofs.Lawful.{order_lawful}
 use Rattle.parts.proofs.audit.audit_from.Given as goal
 
-abbrev pub invariant-loop-p : goal.invariant-loop-p
-invariant-loop-p g l = Agreed order (g.A.Inventory.parts l.a) (g.B.Inventory.parts l.b) l.initial.passed l.passed
-
-abbrev pub decreases-loop-p : goal.decreases-loop-p
-decreases-loop-p g l = length (beyond order l.passed (g.A.Inventory.parts l.a))
+abbrev pub invariant-loop-q : goal.invariant-loop-q
+invariant-loop-q g l = Abreast order order_lawful (g.A.Inventory.parts l.fn.a) (g.B.Inventory.parts l.fn.b) l.fn.from l.left l.right
