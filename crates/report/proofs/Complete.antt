@@ -1,5 +1,5 @@
 -- The report of some parts is accepted, and its parts are read back.
-use Rattle.std.proofs.Common.{◌≡◌, ℕ, zero, suc, ◌+◌, ◌-◌, ◌<◌, ◌≤◌, Bool, true, false, ◌&&◌, leb, ◌⊎◌, List, [], ◌∷◌, ◌++◌, length, get_or, replicate, is_some, Some, None, Ok, Option, sym, refl, ap, ◌∙◌, inl, inr, arith}
+use Rattle.std.proofs.Common.{◌≡◌, ℕ, zero, suc, ◌+◌, ◌-◌, ◌<◌, ◌≤◌, Bool, true, false, ◌&&◌, leb, ◌⊎◌, List, [], ◌∷◌, ◌++◌, length, get_or, drop, replicate, is_some, Some, None, Ok, Option, sym, refl, ap, ◌∙◌, inl, inr, arith}
 use Rattle.std.specs.List.{flat_map}
 use Rattle.std.proofs.lemmas.Bool.Decides.{nat_tests}
 use Rattle.std.proofs.lemmas.List.{length-append, length-replicate}
@@ -20,6 +20,7 @@ use Rattle.report.specs.Checks.{all_zero, text_field_at, key_at, rises_at, keys_
 use Rattle.report.specs.Meaning.{part_at, parts_from}
 use Rattle.report.specs.Format.{text_bytes, field_bytes, key_bytes, replaceable_number, details_bytes}
 use Rattle.report.proofs.Steps.{rises_from, rises_first}
+use Rattle.report.proofs.Sound.{key_split}
 
 zero_bytes : (n : ℕ) → all_zero (replicate n 0) ≡ true
 zero_bytes zero = refl
@@ -73,24 +74,14 @@ key_read file at f l g e =
     let model_high : length f.model ≤ 64 = g.model.1 in
     let serial_low : 1 ≤ length f.serial = g.serial.0 in
     let serial_high : length f.serial ≤ 64 = g.serial.1 in
-    let a5 : at + 5 + 65 ≡ at + 70 = omega arith in
-    let a70 : at + 70 + 65 ≡ at + 135 = omega arith in
-    let a135 : at + 135 + 65 ≡ at + 200 = omega arith in
-    let first : part file at (at + 200) ≡ get_or file at 0 ∷ part file (at + 1) (at + 200) = part_more file at (at + 200) (omega arith) l in
-    let both : get_or file at 0 ∷ part file (at + 1) (at + 200) ≡ f.registry ∷ (f.class ++ (text_bytes f.maker ++ (text_bytes f.model ++ text_bytes f.serial))) = sym first ∙ e in
+    let both : get_or file at 0 ∷ (part file (at + 1) (at + 5) ++ (part file (at + 5) (at + 5 + 65) ++ (part file (at + 70) (at + 70 + 65) ++ part file (at + 135) (at + 135 + 65)))) ≡ f.registry ∷ (f.class ++ (text_bytes f.maker ++ (text_bytes f.model ++ text_bytes f.serial))) = sym (key_split file at l) ∙ e in
     let registry : get_or file at 0 ≡ f.registry = cc in
-    let body : part file (at + 1) (at + 200) ≡ f.class ++ (text_bytes f.maker ++ (text_bytes f.model ++ text_bytes f.serial)) = cc in
-    let n1 : length (part file (at + 1) (at + 5)) ≡ at + 5 - (at + 1) = part_length file (at + 1) (at + 5) (omega arith) in
-    let h1 = same_halves (part file (at + 1) (at + 5)) f.class (part file (at + 5) (at + 200)) (text_bytes f.maker ++ (text_bytes f.model ++ text_bytes f.serial)) (omega arith) (sym (part_split file (at + 1) (at + 5) (at + 200) (omega arith) (omega arith) l) ∙ body) in
-    let n2 : length (part file (at + 5) (at + 70)) ≡ at + 70 - (at + 5) = part_length file (at + 5) (at + 70) (omega arith) in
-    let s2 = text_size f.maker maker_high in
-    let h2 = same_halves (part file (at + 5) (at + 70)) (text_bytes f.maker) (part file (at + 70) (at + 200)) (text_bytes f.model ++ text_bytes f.serial) (omega arith) (sym (part_split file (at + 5) (at + 70) (at + 200) (omega arith) (omega arith) l) ∙ h1.1) in
-    let n3 : length (part file (at + 70) (at + 135)) ≡ at + 135 - (at + 70) = part_length file (at + 70) (at + 135) (omega arith) in
-    let s3 = text_size f.model model_high in
-    let h3 = same_halves (part file (at + 70) (at + 135)) (text_bytes f.model) (part file (at + 135) (at + 200)) (text_bytes f.serial) (omega arith) (sym (part_split file (at + 70) (at + 135) (at + 200) (omega arith) (omega arith) l) ∙ h2.1) in
-    let maker = text_back file (at + 5) f.maker (omega arith) maker_high (ap (part file (at + 5)) a5 ∙ h2.0) in
-    let model = text_back file (at + 70) f.model (omega arith) model_high (ap (part file (at + 70)) a70 ∙ h3.0) in
-    let serial = text_back file (at + 135) f.serial (omega arith) serial_high (ap (part file (at + 135)) a135 ∙ h3.1) in
+    let h1 = same_halves (part file (at + 1) (at + 5)) f.class _ _ (let n = part_length file (at + 1) (at + 5) (omega arith) in omega arith) (ap (drop 1) both) in
+    let h2 = same_halves (part file (at + 5) (at + 5 + 65)) (text_bytes f.maker) _ _ (let n = part_length file (at + 5) (at + 5 + 65) (omega arith) in let s = text_size f.maker maker_high in omega arith) h1.1 in
+    let h3 = same_halves (part file (at + 70) (at + 70 + 65)) (text_bytes f.model) _ _ (let n = part_length file (at + 70) (at + 70 + 65) (omega arith) in let s = text_size f.model model_high in omega arith) h2.1 in
+    let maker = text_back file (at + 5) f.maker (omega arith) maker_high h2.0 in
+    let model = text_back file (at + 70) f.model (omega arith) model_high h3.0 in
+    let serial = text_back file (at + 135) f.serial (omega arith) serial_high h3.1 in
     let known = ap (λ (k : ℕ). is_some (registry_of k)) registry ∙ g.registry in
     record {
       checks = rw (known, text_made file (at + 5) 1 f.maker maker_low maker_high maker, text_made file (at + 70) 1 f.model model_low model_high model) (text_made file (at + 135) 1 f.serial serial_low serial_high serial);

@@ -2,7 +2,7 @@
 use Rattle.std.proofs.Common.{◌≡◌, ℕ, zero, suc, ◌+◌, ◌-◌, ◌<◌, ◌≤◌, true, ◌&&◌, eqb, leb, List, [], ◌∷◌, ◌++◌, length, get_or, replicate, Ok, Ordering, Less, Equal, Greater, sym, refl, ap, ◌∙◌, subst, arith}
 use Rattle.std.specs.List.{flat_map}
 use Rattle.std.proofs.lemmas.Bool.Decides.{nat_tests}
-use Rattle.std.proofs.lemmas.Bool.{and_parts, eqb-true, leb-true}
+use Rattle.std.proofs.lemmas.Bool.{false≢true, and_parts, eqb-true, leb-true}
 use Rattle.std.specs.Ordering.{is_lt}
 use Rattle.model.specs.Parts.{AllAbove, Rising}
 use Rattle.model.proofs.Lists.{lower}
@@ -10,7 +10,7 @@ use Rattle.parts.specs.declared.key.Key.{Key}
 use Rattle.parts.proofs.Lawful.{order_lawful}
 use Rattle.der.specs.Numbers.{part}
 use Rattle.der.proofs.Parts.{part_length, part_none, part_more, part_split}
-use Rattle.parts.specs.Keys.{Fields, said, in_turn, order}
+use Rattle.parts.specs.Keys.{in_turn, order}
 use Rattle.parts.specs.Bounds.{content}
 use Rattle.parts.specs.Details.{replaceable_of}
 use Rattle.parts.proofs.Built.{Good, key_from, key_from_lem, bounded_or, bounded_or_lem, none, known_or}
@@ -66,26 +66,25 @@ fields_good file at l g = record {
   serial = text_in file (at + 135) (omega arith) g.serial;
 }
 
-put_together : (whole a b c d t u v m n o : List ℕ) (x : ℕ) → whole ≡ x ∷ a → a ≡ b ++ c → c ≡ t ++ d → d ≡ u ++ v → t ≡ m → u ≡ n → v ≡ o → whole ≡ x ∷ (b ++ (m ++ (n ++ o)))
-put_together whole a b c d t u v m n o x e f g h i j k = cc
+-- a key's bytes, field by field
+pub key_split : (file : List ℕ) (at : ℕ) → at + 200 ≤ length file → part file at (at + 200) ≡ get_or file at 0 ∷ (part file (at + 1) (at + 5) ++ (part file (at + 5) (at + 5 + 65) ++ (part file (at + 70) (at + 70 + 65) ++ part file (at + 135) (at + 135 + 65))))
+key_split file at l =
+    let a5 : at + 5 + 65 ≡ at + 70 = omega arith in
+    let a70 : at + 70 + 65 ≡ at + 135 = omega arith in
+    let a135 : at + 135 + 65 ≡ at + 200 = omega arith in
+    let first = part_more file at (at + 200) (omega arith) l in
+    let class = part_split file (at + 1) (at + 5) (at + 200) (omega arith) (omega arith) l in
+    let maker = part_split file (at + 5) (at + 70) (at + 200) (omega arith) (omega arith) l in
+    let model = part_split file (at + 70) (at + 135) (at + 200) (omega arith) (omega arith) l in
+    rw (a5, a70, a135) cc
 
 pub field_bytes_lem : (file : List ℕ) (at : ℕ) → at + 200 ≤ length file → key_at file at ≡ Ok tt → part file at (at + 200) ≡ field_bytes (fields_at file at)
 field_bytes_lem file at l e =
     let met : KeyMet file at = key_met file at e in
-    let a5 : at + 5 + 65 ≡ at + 70 = omega arith in
-    let a70 : at + 70 + 65 ≡ at + 135 = omega arith in
-    let a135 : at + 135 + 65 ≡ at + 200 = omega arith in
-    let first : part file at (at + 200) ≡ get_or file at 0 ∷ part file (at + 1) (at + 200) = part_more file at (at + 200) (omega arith) l in
-    let class : part file (at + 1) (at + 200) ≡ part file (at + 1) (at + 5) ++ part file (at + 5) (at + 200) = part_split file (at + 1) (at + 5) (at + 200) (omega arith) (omega arith) l in
-    let maker : part file (at + 5) (at + 200) ≡ part file (at + 5) (at + 70) ++ part file (at + 70) (at + 200) = part_split file (at + 5) (at + 70) (at + 200) (omega arith) (omega arith) l in
-    let model : part file (at + 70) (at + 200) ≡ part file (at + 70) (at + 135) ++ part file (at + 135) (at + 200) = part_split file (at + 70) (at + 135) (at + 200) (omega arith) (omega arith) l in
-    let t5 : part file (at + 5) (at + 70) ≡ text_bytes (text_at file (at + 5)) = ap (part file (at + 5)) (sym a5) ∙ text_bytes_lem file (at + 5) 1 (omega arith) met.maker in
-    let t70 : part file (at + 70) (at + 135) ≡ text_bytes (text_at file (at + 70)) = ap (part file (at + 70)) (sym a70) ∙ text_bytes_lem file (at + 70) 1 (omega arith) met.model in
-    let t135 : part file (at + 135) (at + 200) ≡ text_bytes (text_at file (at + 135)) = ap (part file (at + 135)) (sym a135) ∙ text_bytes_lem file (at + 135) 1 (omega arith) met.serial in
-    put_together (part file at (at + 200)) (part file (at + 1) (at + 200)) (part file (at + 1) (at + 5)) (part file (at + 5) (at + 200)) (part file (at + 70) (at + 200))
-    (part file (at + 5) (at + 70)) (part file (at + 70) (at + 135)) (part file (at + 135) (at + 200))
-    (text_bytes (text_at file (at + 5))) (text_bytes (text_at file (at + 70))) (text_bytes (text_at file (at + 135))) (get_or file at 0)
-    first class maker model t5 t70 t135
+    let maker = text_bytes_lem file (at + 5) 1 (omega arith) met.maker in
+    let model = text_bytes_lem file (at + 70) 1 (omega arith) met.model in
+    let serial = text_bytes_lem file (at + 135) 1 (omega arith) met.serial in
+    key_split file at l ∙ (λ j. get_or file at 0 ∷ (part file (at + 1) (at + 5) ++ (maker j ++ (model j ++ serial j))))
 
 -- ---- details
 
@@ -169,8 +168,8 @@ key_in file i = key_from (fields_at file (key_place i))
 
 is_less : (o : Ordering) → is_lt o ≡ true → o ≡ Less
 is_less Less h = refl
-is_less Equal h = let z : ◌≡◌ {A = ℕ} 0 1 = cc in let never : ⊥ = omega arith in absurd never
-is_less Greater h = let z : ◌≡◌ {A = ℕ} 0 1 = cc in let never : ⊥ = omega arith in absurd never
+is_less Equal h = absurd (false≢true h)
+is_less Greater h = absurd (false≢true h)
 
 rises_met : (file : List ℕ) (i : ℕ) → 0 < i → Good (fields_at file (key_place (i - 1))) → Good (fields_at file (key_place i)) → rises_at file i ≡ true → order (key_in file (i - 1)) (key_in file i) ≡ Less
 rises_met file i h g g' e =
@@ -195,20 +194,3 @@ ascending file n i (suc left) l e =
       rising = (over, rest.rising);
       above = λ h g. (let less = rises_met file i h g good m.rises in (less, lower order order_lawful (key_in file (i - 1)) (key_in file i) (parts_from file n (i + 1) left) less over));
     }
-
--- ---- fields where they stand
-
-pub four_bytes : (file : List ℕ) (at : ℕ) → at + 5 ≤ length file → part file (at + 1) (at + 5) ≡ get_or file (at + 1) 0 ∷ get_or file (at + 2) 0 ∷ get_or file (at + 3) 0 ∷ get_or file (at + 4) 0 ∷ []
-four_bytes file at l =
-    let a2 : at + 1 + 1 ≡ at + 2 = omega arith in
-    let a3 : at + 2 + 1 ≡ at + 3 = omega arith in
-    let a4 : at + 3 + 1 ≡ at + 4 = omega arith in
-    let p1 = part_more file (at + 1) (at + 5) (omega arith) l ∙ ap (λ (k : ℕ). get_or file (at + 1) 0 ∷ part file k (at + 5)) a2 in
-    let p2 = part_more file (at + 2) (at + 5) (omega arith) l ∙ ap (λ (k : ℕ). get_or file (at + 2) 0 ∷ part file k (at + 5)) a3 in
-    let p3 = part_more file (at + 3) (at + 5) (omega arith) l ∙ ap (λ (k : ℕ). get_or file (at + 3) 0 ∷ part file k (at + 5)) a4 in
-    let p4 = part_more file (at + 4) (at + 5) (omega arith) l ∙ ap (λ (ys : List ℕ). get_or file (at + 4) 0 ∷ ys) (part_none file (at + 4 + 1) (at + 5) (omega arith)) in
-    cc
-
--- fields with the class written out
-pub with_class : (f g : Fields) (xs : List ℕ) → f ≡ g → xs ≡ g.class → said f.registry xs f.maker f.model f.serial ≡ g
-with_class f g xs e h = λ i. said (e i).registry (h i) (e i).maker (e i).model (e i).serial

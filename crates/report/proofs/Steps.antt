@@ -1,32 +1,35 @@
 -- The steps of the checks.
-use Rattle.std.proofs.Common.{◌≡◌, ℕ, suc, ◌+◌, ◌-◌, ◌<◌, ◌≤◌, Bool, true, false, cond, ◌&&◌, leb, List, ◌∷◌, get_or, is_some, Ok, Err, Result, sym, refl, arith, below_more}
+use Rattle.std.proofs.Common.{◌≡◌, ℕ, suc, ◌+◌, ◌-◌, ◌<◌, ◌≤◌, Bool, true, false, cond, ◌&&◌, leb, List, get_or, is_some, Some, None, Option, is_ok, Ok, Err, Result, sym, refl, ap, ◌∙◌, arith}
 use Rattle.std.proofs.lemmas.Bool.Decides.{nat_tests}
-use Rattle.std.proofs.lemmas.Bool.{ne_eqb, eq-eqb}
+use Rattle.std.proofs.lemmas.Bool.{false≢true, ne_eqb, eq-eqb}
+use Rattle.std.specs.Option.{MatchOption, option_map_or}
 use Rattle.std.specs.Ordering.{is_lt}
 use Rattle.der.specs.Refusals.{refused, then}
 use Rattle.der.specs.declared.refusal.Refusal.{Refusal}
 use Rattle.der.specs.declared.refusal.Reason.{Reason}
 use Rattle.der.specs.declared.refusal.Reason.TheVariants.{Repeated}
-use Rattle.parts.specs.Keys.{registry_of, in_turn}
+use Rattle.parts.specs.declared.key.LentKey.{LentKey}
+use Rattle.parts.specs.Keys.{registry_of, lent_fields, in_turn}
 use Rattle.report.specs.Layout.{key_place, details_place, fields_at}
 use Rattle.report.specs.WellFormed.{Text, KeyGood}
-use Rattle.report.specs.Checks.{all_zero, text_field_at, key_at, rises_at, keys_from, details_at, details_from}
-
-pub zero_more : (x : ℕ) (xs : List ℕ) → x ≡ 0 → all_zero (x ∷ xs) ≡ all_zero xs
-zero_more x xs e = grind (arith, nat_tests)
-
-pub zero_stop : (x : ℕ) (xs : List ℕ) → (x ≡ 0 → ⊥) → all_zero (x ∷ xs) ≡ false
-zero_stop x xs e = grind (arith, nat_tests)
+use Rattle.report.specs.Checks.{text_field_at, key_at, rises_at, keys_from, details_at, details_from}
 
 -- ---- chains
 
+pub err_ok : {X E : Type 0} {d : E} {x : X} → ◌≡◌ {A = Result X E} (Err d) (Ok x) → ⊥
+err_ok e = let z : ◌≡◌ {A = ℕ} 0 1 = cc in omega arith
+
 pub then_ok : {X Y : Type 0} (q : Result X Refusal) (k : X → Result Y Refusal) (y : Y) → then q k ≡ Ok y → (x : X) × (q ≡ Ok x) × (k x ≡ Ok y)
 then_ok (Ok x) k y e = (x, refl, e)
-then_ok (Err d) k y e = let z : ◌≡◌ {A = ℕ} 0 1 = cc in let never : ⊥ = omega arith in absurd never
+then_ok (Err d) k y e = absurd (err_ok e)
 
 pub cond_ok : {X : Type 0} (b : Bool) (q : Result X Refusal) (r : Reason) (at : ℕ) (x : X) → cond b q (refused r at) ≡ Ok x → (b ≡ true) × (q ≡ Ok x)
 cond_ok true q r at x e = (refl, e)
-cond_ok false q r at x e = let z : ◌≡◌ {A = ℕ} 0 1 = cc in let never : ⊥ = omega arith in absurd never
+cond_ok false q r at x e = absurd (err_ok e)
+
+pub told_ok : {X : Type 0} (q : Result (Unit {0}) X) → is_ok q ≡ true → q ≡ Ok tt
+told_ok (Ok u) e = refl
+told_ok (Err d) e = absurd (false≢true e)
 
 -- ---- what a good text field, key and details have
 
@@ -55,22 +58,30 @@ key_good file at e =
     let m = key_met file at e in
     record { registry = m.registry; maker = text_good file (at + 5) 1 m.maker; model = text_good file (at + 70) 1 m.model; serial = text_good file (at + 135) 1 m.serial }
 
--- ---- a loop's step
+-- ---- the rest, from one on
 
-pub keys_more : (file : List ℕ) (i left : ℕ) → key_at file (key_place i) ≡ Ok tt → rises_at file i ≡ true → keys_from file i (suc left) ≡ keys_from file (i + 1) left
-keys_more file i left e h = rw (e, h) refl
+keys_next : (file : List ℕ) (n i : ℕ) → i < n → keys_from file i (suc (n - (i + 1))) ≡ keys_from file i (n - i)
+keys_next file n i h = let left : suc (n - (i + 1)) ≡ n - i = omega arith in ap (keys_from file i) left
 
-pub keys_stop : (file : List ℕ) (i left : ℕ) (d : Refusal) → key_at file (key_place i) ≡ Err d → keys_from file i (suc left) ≡ Err d
-keys_stop file i left d e = rw e refl
+details_next : (file : List ℕ) (n i : ℕ) → i < n → details_from file n i (suc (n - (i + 1))) ≡ details_from file n i (n - i)
+details_next file n i h = let left : suc (n - (i + 1)) ≡ n - i = omega arith in ap (details_from file n i) left
 
-pub keys_repeated : (file : List ℕ) (i left : ℕ) → key_at file (key_place i) ≡ Ok tt → rises_at file i ≡ false → keys_from file i (suc left) ≡ refused Repeated (key_place i)
-keys_repeated file i left e h = rw (e, h) refl
+-- ---- a loop's step, where all is what its start comes to
 
-pub details_more : (file : List ℕ) (n i left : ℕ) → details_at file (details_place n i) ≡ Ok tt → details_from file n i (suc left) ≡ details_from file n (i + 1) left
-details_more file n i left e = rw e refl
+pub keys_stop : (file : List ℕ) (n i : ℕ) (d : Refusal) (all : Result (Unit {0}) Refusal) → i < n → key_at file (key_place i) ≡ Err d → keys_from file i (n - i) ≡ all → Err d ≡ all
+keys_stop file n i d all h e start = sym (rw e refl) ∙ (keys_next file n i h ∙ start)
 
-pub details_stop : (file : List ℕ) (n i left : ℕ) (d : Refusal) → details_at file (details_place n i) ≡ Err d → details_from file n i (suc left) ≡ Err d
-details_stop file n i left d e = rw e refl
+pub keys_repeated : (file : List ℕ) (n i : ℕ) (all : Result (Unit {0}) Refusal) → i < n → key_at file (key_place i) ≡ Ok tt → rises_at file i ≡ false → keys_from file i (n - i) ≡ all → refused Repeated (key_place i) ≡ all
+keys_repeated file n i all h e r start = sym (rw (e, r) refl) ∙ (keys_next file n i h ∙ start)
+
+pub keys_more : (file : List ℕ) (n i : ℕ) (all : Result (Unit {0}) Refusal) → i < n → key_at file (key_place i) ≡ Ok tt → rises_at file i ≡ true → keys_from file i (n - i) ≡ all → keys_from file (i + 1) (n - (i + 1)) ≡ all
+keys_more file n i all h e r start = sym (rw (e, r) refl) ∙ (keys_next file n i h ∙ start)
+
+pub details_stop : (file : List ℕ) (n i : ℕ) (d : Refusal) (all : Result (Unit {0}) Refusal) → i < n → details_at file (details_place n i) ≡ Err d → details_from file n i (n - i) ≡ all → Err d ≡ all
+details_stop file n i d all h e start = sym (rw e refl) ∙ (details_next file n i h ∙ start)
+
+pub details_more : (file : List ℕ) (n i : ℕ) (all : Result (Unit {0}) Refusal) → i < n → details_at file (details_place n i) ≡ Ok tt → details_from file n i (n - i) ≡ all → details_from file n (i + 1) (n - (i + 1)) ≡ all
+details_more file n i all h e start = sym (rw e refl) ∙ (details_next file n i h ∙ start)
 
 pub rises_from : (file : List ℕ) (i : ℕ) (b : Bool) → 0 < i → b ≡ is_lt (in_turn (fields_at file (key_place (i - 1))) (fields_at file (key_place i))) → rises_at file i ≡ b
 rises_from file i b h e = rw (ne_eqb i 0 (λ z. let never : ⊥ = omega arith in never)) (sym e)
@@ -78,6 +89,7 @@ rises_from file i b h e = rw (ne_eqb i 0 (λ z. let never : ⊥ = omega arith in
 pub rises_first : (file : List ℕ) (i : ℕ) → i ≤ 0 → rises_at file i ≡ true
 rises_first file i h = rw (eq-eqb i 0 (omega arith)) refl
 
--- one more key is good
-pub good_more : (file : List ℕ) (i : ℕ) → ((k : ℕ) → k < i → key_at file (key_place k) ≡ Ok tt) → key_at file (key_place i) ≡ Ok tt → (k : ℕ) → k < i + 1 → key_at file (key_place k) ≡ Ok tt
-good_more file i h e = below_more (λ (k : ℕ). key_at file (key_place k) ≡ Ok tt) i h e
+-- whether a key rises, told by the key before it, if there is one
+pub rises_told : (file : List ℕ) (i : ℕ) (before : Option LentKey) (key : LentKey) (r : Bool) → MatchOption before (i ≡ 0) (λ k. (0 < i) × (lent_fields k ≡ fields_at file (key_place (i - 1)))) → lent_fields key ≡ fields_at file (key_place i) → r ≡ option_map_or (λ k. is_lt (in_turn (lent_fields k) (lent_fields key))) before true → rises_at file i ≡ r
+rises_told file i None key r first here e = rises_first file i (omega arith) ∙ sym e
+rises_told file i (Some k) key r there here e = rises_from file i r there.0 (e ∙ (λ j. is_lt (in_turn (there.1 j) (here j))))

@@ -15,7 +15,7 @@ use Rattle.report.specs.Layout.{most_reported, key_place, details_place, report_
 use Rattle.report.specs.Checks.{keys_from, details_from, sizes_of, checked}
 use Rattle.report.specs.Meaning.{parts_from, parts_in}
 use Rattle.report.specs.Format.{two_bytes, key_bytes, details_bytes, report_bytes, Reports, Told}
-use Rattle.report.proofs.Steps.{then_ok}
+use Rattle.report.proofs.Steps.{err_ok, then_ok}
 use Rattle.report.proofs.Complete.{key_size_lem, details_size_lem, PartsBack, parts_back}
 use Rattle.report.proofs.Sound.{joined_keys, joined_details, ascending}
 
@@ -60,11 +60,8 @@ pub parts_length : (file : List ℕ) (n i left : ℕ) → length (parts_from fil
 parts_length file n i zero = refl
 parts_length file n i (suc left) = ap suc (parts_length file n (i + 1) left)
 
-header : (file : List ℕ) → Bytes file → 6 ≤ length file → two_at file 2 ≡ 200 → two_at file 4 ≡ 66 → part file 0 6 ≡ two_bytes (two_at file 0) ++ (two_bytes 200 ++ two_bytes 66)
-header file b l k d =
-    let b1 = b 1 in
-    let b3 = b 3 in
-    let b5 = b 5 in
+six_bytes : (file : List ℕ) → 6 ≤ length file → part file 0 6 ≡ get_or file 0 0 ∷ get_or file 1 0 ∷ get_or file 2 0 ∷ get_or file 3 0 ∷ get_or file 4 0 ∷ get_or file 5 0 ∷ []
+six_bytes file l =
     let p0 = part_more file 0 6 (omega arith) l in
     let p1 = part_more file 1 6 (omega arith) l in
     let p2 = part_more file 2 6 (omega arith) l in
@@ -72,6 +69,14 @@ header file b l k d =
     let p4 = part_more file 4 6 (omega arith) l in
     let p5 = part_more file 5 6 (omega arith) l in
     let p6 = part_none file 6 6 (omega arith) in
+    cc
+
+header : (file : List ℕ) → Bytes file → 6 ≤ length file → two_at file 2 ≡ 200 → two_at file 4 ≡ 66 → part file 0 6 ≡ two_bytes (two_at file 0) ++ (two_bytes 200 ++ two_bytes 66)
+header file b l k d =
+    let b1 = b 1 in
+    let b3 = b 3 in
+    let b5 = b 5 in
+    let six = six_bytes file l in
     let n0 : two_at file 0 / 256 ≡ get_or file 0 0 = omega arith in
     let n1 : two_at file 0 % 256 ≡ get_or file 1 0 = omega arith in
     let k0 : get_or file 2 0 ≡ 0 = omega arith in
@@ -184,12 +189,7 @@ record HeaderBack (file : List ℕ) (n : ℕ) : Type 0 where
 
 header_back : (file : List ℕ) (n : ℕ) → 6 ≤ length file → part file 0 6 ≡ two_bytes n ++ (two_bytes 200 ++ two_bytes 66) → HeaderBack file n
 header_back file n l e =
-    let p0 = part_more file 0 6 (omega arith) l in
-    let p1 = part_more file 1 6 (omega arith) l in
-    let p2 = part_more file 2 6 (omega arith) l in
-    let p3 = part_more file 3 6 (omega arith) l in
-    let p4 = part_more file 4 6 (omega arith) l in
-    let p5 = part_more file 5 6 (omega arith) l in
+    let six = six_bytes file l in
     let g0 : get_or file 0 0 ≡ n / 256 = cc in
     let g1 : get_or file 1 0 ≡ n % 256 = cc in
     let g2 : get_or file 2 0 ≡ 0 = cc in
@@ -226,4 +226,4 @@ told file (Ok u) b e = record {
   reports = sound file b (sym e);
   alone = λ ps h. sym (complete file ps h).parts;
 }
-told file (Err d) b e = λ ps h. let z : ◌≡◌ {A = Result (Unit {0}) Refusal} (Err d) (Ok tt) = e ∙ (complete file ps h).checks in let never : ◌≡◌ {A = ℕ} 0 1 = cc in omega arith
+told file (Err d) b e = λ ps h. err_ok (e ∙ (complete file ps h).checks)

@@ -1,5 +1,6 @@
 -- The check of a probe report: the answer for every byte string, refusals included, in the order in which they come.
-use Rattle.std.specs.Prelude.{ℕ, zero, suc, ◌+◌, ◌-◌, Bool, true, cond, ◌&&◌, ◌||◌, List, [], ◌∷◌, length, is_some, Ok, Result, ◌==◌, nat_le, nat_lt, slice_index}
+use Rattle.std.specs.Prelude.{ℕ, zero, suc, ◌+◌, ◌-◌, Bool, cond, ◌&&◌, ◌||◌, List, length, is_some, Ok, Result, ◌==◌, nat_le, nat_lt, slice_index}
+use Rattle.std.specs.List.{list_all}
 use Rattle.std.specs.Ordering.{is_lt}
 use Rattle.der.specs.Refusals.{refused, then}
 use Rattle.der.specs.Numbers.{part}
@@ -10,8 +11,7 @@ use Rattle.report.specs.Layout.{most_reported, sizes, key_size, details_size, ma
 
 -- every byte is zero
 abbrev pub all_zero : List ℕ → Bool
-all_zero [] = true
-all_zero (x ∷ xs) = x == 0 && all_zero xs
+all_zero xs = list_all (λ x. x == 0) xs
 
 -- the text field at `at`: a length byte of at least `least` and at most `most_text`, and zeros behind the text
 abbrev pub text_field_at : List ℕ → ℕ → ℕ → Result (Unit {0}) Refusal

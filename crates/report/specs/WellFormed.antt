@@ -1,8 +1,7 @@
--- What well formed fields have: the premises of the functions that read them.
-use Rattle.std.specs.Prelude.{◌≡◌, ℕ, ◌+◌, ◌≤◌, true, List, is_some, Ok, Err, Result, slice_index, slice_index_or}
-use Rattle.der.specs.declared.refusal.Refusal.{Refusal}
+-- What well formed fields have.
+use Rattle.std.specs.Prelude.{◌≡◌, ℕ, ◌+◌, ◌≤◌, true, List, is_some, slice_index, slice_index_or}
 use Rattle.parts.specs.Keys.{registry_of}
-use Rattle.report.specs.Layout.{report_size, most_reported, maker_place, model_place, serial_place, most_text}
+use Rattle.report.specs.Layout.{maker_place, model_place, serial_place, most_text}
 
 -- a length byte in its bounds
 pub record Text (file : List ℕ) (at least : ℕ) : Type 0 where
@@ -15,8 +14,3 @@ pub record KeyGood (file : List ℕ) (at : ℕ) : Type 0 where
   pub maker : Text file (at + maker_place) 1
   pub model : Text file (at + model_place) 1
   pub serial : Text file (at + serial_place) 1
-
--- the number of keys, and the file's length by it
-abbrev pub Sized : ℕ → Result ℕ Refusal → Type 0
-Sized size (Ok n) = (n ≤ most_reported) × (size ≡ report_size n)
-Sized size (Err e) = Unit {0}

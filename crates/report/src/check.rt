@@ -1,81 +1,36 @@
 // The check of a probe report.
-ghost use Rattle.std.specs.Prelude.{◌≡◌, ◌+◌, ◌-◌, ◌*◌, ◌<◌, ◌≤◌, length, Ok};
+ghost use Rattle.std.specs.Prelude.{◌≡◌, true, Ok, Err};
+ghost use Rattle.std.specs.Option.{option_map_or};
 ghost use Rattle.std.specs.Ordering.{is_lt};
-ghost use Rattle.parts.specs.Keys.{in_turn};
-ghost use Rattle.report.specs.Layout.{key_place, details_place, fields_at, two_at, details_size, key_size, most_reported, text_field};
+ghost use Rattle.std.specs.Result.{MatchResult};
+ghost use Rattle.parts.specs.Keys.{lent_fields, in_turn};
 ghost use Rattle.report.specs.Format.{Told};
-ghost use Rattle.report.specs.WellFormed.{KeyGood, Sized};
-ghost use Rattle.report.specs.Checks.{all_zero, text_field_at, key_at, keys_from, details_at, details_from, sizes_of, checked};
+ghost use Rattle.report.specs.Checks.{keys_from, details_from, sizes_of, checked};
 
-use crate::fields::lent_key;
-use crate::layout::{
-    DETAILS_SIZE, KEY_SIZE, MAKER, MODEL, MOST_REPORTED, MOST_TEXT, REPLACEABLE, SERIAL, SIZES,
-    TEXT_FIELD,
-};
+use crate::layout::{DETAILS_SIZE, KEY_SIZE, MOST_REPORTED, SIZES, two_at};
+use crate::tables::Tables;
 use der::refusal::{Reason, Refusal};
-use parts::key::Registry;
-use std::cmp::Ordering;
+use parts::key::LentKey;
 
-fn all_zero(bytes: &[u8]) -> bool
-    ensures { result ≡ all_zero bytes.now }
+// Whether the bytes are a probe report.
+pub fn check_report(file: &[u8]) -> Result<(), Refusal>
+    ensures is { result ≡ checked file.now }
+    ensures told { Told file.now result }
 {
-    for byte in bytes {
-        if *byte != 0 {
-            return false;
-        }
-    }
-    true
+    check_parts(file)
 }
 
-// A text field: its length byte, the text, zeros up to its size.
-fn check_text(file: &[u8], at: usize, least: u8) -> Result<(), Refusal>
-    requires { at + text_field ≤ length file.now }
-    ensures { result ≡ text_field_at file.now at least }
+fn check_parts(file: &[u8]) -> Result<(), Refusal>
+    ensures { result ≡ checked file.now }
 {
-    let len = file[at];
-    if len < least || len > MOST_TEXT {
-        return Err(Reason::TextSize.at(at));
-    }
-    if !all_zero(&file[at + 1 + len as usize..at + TEXT_FIELD]) {
-        return Err(Reason::BadContent.at(at));
-    }
-    Ok(())
+    let tables = check_sizes(file)?;
+    check_keys(&tables)?;
+    check_details(&tables)
 }
 
-fn check_key(file: &[u8], at: usize) -> Result<(), Refusal>
-    requires { at + key_size ≤ length file.now }
-    ensures { result ≡ key_at file.now at }
-{
-    if Registry::of(file[at]).is_none() {
-        return Err(Reason::BadContent.at(at));
-    }
-    check_text(file, at + MAKER, 1)?;
-    check_text(file, at + MODEL, 1)?;
-    check_text(file, at + SERIAL, 1)
-}
-
-fn check_details(file: &[u8], at: usize) -> Result<(), Refusal>
-    requires { at + details_size ≤ length file.now }
-    ensures { result ≡ details_at file.now at }
-{
-    check_text(file, at, 0)?;
-    if file[at + REPLACEABLE] > 2 {
-        return Err(Reason::BadContent.at(at + REPLACEABLE));
-    }
-    Ok(())
-}
-
-fn two_at(file: &[u8], at: usize) -> usize
-    requires { at + 1 < length file.now }
-    ensures { result ≡ two_at file.now at }
-{
-    file[at] as usize * 256 + file[at + 1] as usize
-}
-
-// The number of keys, where the three sizes are right and the file is as long as they say.
-fn check_sizes(file: &[u8]) -> Result<usize, Refusal>
-    ensures is { result ≡ sizes_of file.now }
-    ensures sized { Sized (length file.now) result }
+// The tables, where the three sizes are right and the file is as long as they say.
+fn check_sizes(file: &[u8]) -> Result<Tables<'_>, Refusal>
+    ensures { MatchResult result (λ t. (t.file.now ≡ file.now) × (sizes_of file.now ≡ Ok t.count)) (λ e. sizes_of file.now ≡ Err e) }
 {
     if file.len() < 2 {
         return Err(Reason::CutShort.at(0));
@@ -103,60 +58,43 @@ fn check_sizes(file: &[u8]) -> Result<usize, Refusal>
     if file.len() > size {
         return Err(Reason::BytesLeft.at(size));
     }
-    Ok(count)
+    Ok(Tables { file, count })
 }
 
-// Whether the key with a number above 0 is above the one before.
-fn rises(file: &[u8], i: usize) -> bool
-    requires within { (0 < i) × ((i < most_reported) × (key_place i + key_size ≤ length file.now)) }
-    requires before { KeyGood file.now (key_place (i - 1)) }
-    requires here { KeyGood file.now (key_place i) }
-    ensures { result ≡ is_lt (in_turn (fields_at file.now (key_place (i - 1))) (fields_at file.now (key_place i))) }
+// The fields of each key, and that it is above the one before. A loop, since a chain would keep that one as a state of
+// its closure, which is no plainer.
+fn check_keys(tables: &Tables<'_>) -> Result<(), Refusal>
+    ensures { result ≡ keys_from tables.now.file.now 0 tables.now.count }
 {
-    let before = lent_key(file, SIZES + KEY_SIZE * (i - 1));
-    let here = lent_key(file, SIZES + KEY_SIZE * i);
-    match before.compare_lent(here) {
-        Ordering::Less => true,
-        _ => false,
-    }
-}
-
-fn check_keys(file: &[u8], count: usize) -> Result<(), Refusal>
-    requires { (count ≤ most_reported) × (key_place count ≤ length file.now) }
-    ensures { result ≡ keys_from file.now 0 count }
-{
-    for i in 0..count {
-        let at = SIZES + KEY_SIZE * i;
-        check_key(file, at)?;
-        if i > 0 && !rises(file, i) {
-            return Err(Reason::Repeated.at(at));
+    let mut before: Option<LentKey<'_>> = None;
+    for i in 0..tables.count {
+        let record = tables.key(i);
+        let key = record.check()?.lent();
+        if !rises(before, key) {
+            return Err(Reason::Repeated.at(record.at));
         }
+        before = Some(key);
     }
     Ok(())
 }
 
-fn check_all_details(file: &[u8], count: usize) -> Result<(), Refusal>
-    requires { (count ≤ most_reported) × (details_place count count ≤ length file.now) }
-    ensures { result ≡ details_from file.now count 0 count }
+// Whether a key is above the one before, if there is one.
+fn rises(before: Option<LentKey<'_>>, key: LentKey<'_>) -> bool
+    ensures { result ≡ option_map_or (λ k. is_lt (in_turn (lent_fields k) (lent_fields key.entry))) before.entry true }
 {
-    for i in 0..count {
-        check_details(file, SIZES + KEY_SIZE * count + DETAILS_SIZE * i)?;
+    match before {
+        None => true,
+        Some(last) => last.compare_lent(key).is_lt(),
+    }
+}
+
+// A loop, since a chain would have to drop what each check answers, which is no plainer.
+#[tactic(auto, using(crate::proofs::Steps::details_stop, crate::proofs::Steps::details_more))]
+fn check_details(tables: &Tables<'_>) -> Result<(), Refusal>
+    ensures { result ≡ details_from tables.now.file.now tables.now.count 0 tables.now.count }
+{
+    for i in 0..tables.count {
+        tables.details(i).check()?;
     }
     Ok(())
-}
-
-// Whether the bytes are a probe report.
-pub fn check_report(file: &[u8]) -> Result<(), Refusal>
-    ensures is { result ≡ checked file.now }
-    ensures told { Told file.now result }
-{
-    check_parts(file)
-}
-
-fn check_parts(file: &[u8]) -> Result<(), Refusal>
-    ensures { result ≡ checked file.now }
-{
-    let count = check_sizes(file)?;
-    check_keys(file, count)?;
-    check_all_details(file, count)
 }

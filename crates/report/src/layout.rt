@@ -1,4 +1,7 @@
 // Where things stand in a probe report: three sizes of two bytes each, then keys, then details.
+ghost use Rattle.std.specs.Prelude.{◌≡◌, ◌+◌, ◌<◌, length};
+ghost use Rattle.report.specs.Layout.{two_at};
+
 pub(crate) const SIZES: usize = 6;
 
 pub(crate) const MOST_REPORTED: usize = 240;
@@ -21,3 +24,11 @@ pub(crate) const REPLACEABLE: usize = 65;
 pub(crate) const TEXT_FIELD: usize = 65;
 
 pub(crate) const MOST_TEXT: u8 = 64;
+
+// A size: two bytes, high byte first, of any file.
+pub(crate) fn two_at(file: &[u8], at: usize) -> usize
+    requires { at + 1 < length file.now }
+    ensures { result ≡ two_at file.now at }
+{
+    usize::from(u16::from_be_bytes([file[at], file[at + 1]]))
+}

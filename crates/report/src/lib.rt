@@ -5,3 +5,4 @@ pub mod check;
 pub mod fields;
 pub mod layout;
 pub mod report;
+mod tables;

@@ -1,24 +1,31 @@
 // A probe report as an inventory, over the lent bytes.
-ghost use Rattle.std.specs.Prelude.{◌≡◌, ◌<◌, ◌≤◌, true, length, is_ok, Ok, Decides};
-ghost use Rattle.std.specs.Option.{option_map};
-ghost use Rattle.model.specs.Parts.{Over, most_parts};
+ghost use Rattle.std.specs.Prelude.{◌≡◌, ◌<◌, ◌≤◌, true, length, is_ok, Ok, Err, None, Some};
+ghost use Rattle.std.specs.Option.{IfSome, option_map_or};
+ghost use Rattle.std.specs.List.{find, range_with_len};
+ghost use Rattle.std.specs.Ordering.{is_eq, is_lt};
+ghost use Rattle.std.specs.Result.{IfOk, MatchResult};
+ghost use Rattle.model.specs.Parts.{most_parts};
 ghost use Rattle.model.specs.Rises.{rises};
 ghost use Rattle.parts.specs.Keys.{order};
-ghost use Rattle.report.specs.Layout.{two_at};
+ghost use Rattle.report.specs.Layout.{key_place, two_at};
 ghost use Rattle.report.specs.Checks.{checked};
 ghost use Rattle.report.specs.Meaning.{part_at, parts_in};
-ghost use Rattle.report.specs.Format.{Reports};
+ghost use Rattle.report.specs.Format.{Reports, TheReport};
 ghost use Rattle.model.proofs.Rises.{rises_told};
 
-use crate::fields::{details_at, key_at, lent_key};
-use crate::layout::{DETAILS_SIZE, KEY_SIZE, SIZES};
+use crate::check::check_report;
+use crate::fields::{CheckedDetails, CheckedKey};
+use crate::layout::two_at;
+use crate::tables::Tables;
+use der::refusal::Refusal;
 use model::part::Part;
 use parts::details::Details;
 use parts::inventory::Inventory;
 use parts::key::Key;
 use std::cmp::Ordering;
 
-// A file that the check accepts.
+// A file that the check accepts. Its methods that look at one part take the part's number, below the number of keys: as
+// one struct with the report it was tried, and the proof did not close (`grind` at the closures of the two searches).
 #[derive(Clone, Copy)]
 pub struct Report<'a> {
     file: &'a [u8],
@@ -30,47 +37,101 @@ pub struct Report<'a> {
 }
 
 impl<'a> Report<'a> {
+    // The report that a file is, or why it is none.
+    pub fn read(file: &'a [u8]) -> Result<Report<'a>, Refusal>
+        ensures accepts { MatchResult result (λ r. checked file.now ≡ Ok tt) (λ e. checked file.now ≡ Err e) }
+        ensures told { MatchResult result (λ r. TheReport file.now) (λ e. (ps : _) → Reports file.now ps → ⊥) }
+        ensures means { IfOk result (λ r. (r.file.now ≡ file.now) × Reports file.now (parts_in r.file.now)) }
+    {
+        check_report(file)?;
+        Ok(Report::make(file))
+    }
+
     // The report in a file that the check accepted.
     pub fn make(file: &'a [u8]) -> Report<'a>
         requires { checked file.now ≡ Ok tt }
         ensures same { result.file.now ≡ file.now }
         ensures means { Reports file.now (parts_in result.file.now) }
     {
-        let keys = file[0] as usize * 256 + file[1] as usize;
-        Report { file, keys }
+        Report {
+            file,
+            keys: two_at(file, 0),
+        }
     }
-}
 
-// The part with a number below the number of keys.
-fn part_of(report: &Report<'_>, i: usize) -> Part<Key, Details>
-    requires { i < report.now.keys }
-    ensures { result ≡ part_at report.now.file.now report.now.keys i }
-{
-    Part {
-        key: key_at(report.file, SIZES + KEY_SIZE * i),
-        details: details_at(
-            report.file,
-            SIZES + KEY_SIZE * report.keys + DETAILS_SIZE * i,
-        ),
+    fn tables(&self) -> Tables<'a>
+        ensures { (result.file.now ≡ self.now.file.now) × (result.count ≡ self.now.keys) }
+    {
+        Tables {
+            file: self.file,
+            count: self.keys,
+        }
     }
-}
 
-// A key against the one with a number below the number of keys.
-fn against_at(report: &Report<'_>, i: usize, key: &Key) -> Ordering
-    requires { i < report.now.keys }
-    ensures { result ≡ order key.now (part_at report.now.file.now report.now.keys i).key }
-{
-    key.against(lent_key(report.file, SIZES + KEY_SIZE * i))
-}
+    // The key with a number below the number of keys.
+    fn key(&self, i: usize) -> CheckedKey<'a>
+        requires { i < self.now.keys }
+        ensures { (result.found.file.now ≡ self.now.file.now) × (result.found.at ≡ key_place i) }
+    {
+        CheckedKey {
+            found: self.tables().key(i),
+        }
+    }
 
-// Whether the part with such a number is above a key; where no key is given, every part is.
-fn is_above(report: &Report<'_>, i: usize, key: Option<&Key>) -> bool
-    requires { i < report.now.keys }
-    ensures { Decides result (Over order (option_map (λ x. x.now) key.entry) (part_at report.now.file.now report.now.keys i).key) }
-{
-    match key {
-        None => true,
-        Some(key) => against_at(report, i, key).is_lt(),
+    fn details(&self, i: usize) -> Details
+        requires { i < self.now.keys }
+        ensures { result ≡ (part_at self.now.file.now self.now.keys i).details }
+    {
+        let checked = CheckedDetails {
+            found: self.tables().details(i),
+        };
+        checked.details()
+    }
+
+    fn part(&self, i: usize) -> Part<Key, Details>
+        requires { i < self.now.keys }
+        ensures { result ≡ part_at self.now.file.now self.now.keys i }
+    {
+        Part {
+            key: self.key(i).key(),
+            details: self.details(i),
+        }
+    }
+
+    // A key against the one with a number below the number of keys. Inlined, so that a search is as fast as a loop.
+    #[inline(always)]
+    fn against(&self, i: usize, key: &Key) -> Ordering
+        requires { i < self.now.keys }
+        ensures { result ≡ order key.now (part_at self.now.file.now self.now.keys i).key }
+    {
+        key.against(self.key(i).lent())
+    }
+
+    // Whether the part with such a number is above a key; where no key is given, every part is.
+    fn is_above(&self, i: usize, key: Option<&Key>) -> bool
+        requires { i < self.now.keys }
+        ensures { result ≡ option_map_or (λ k. is_lt (order k.now (part_at self.now.file.now self.now.keys i).key)) key.entry true }
+    {
+        match key {
+            None => true,
+            Some(key) => self.against(i, key).is_lt(),
+        }
+    }
+
+    // The number of the part with a key.
+    fn place_of(&self, key: &Key) -> Option<usize>
+        ensures is { result ≡ find (λ i. is_eq (order key.now (part_at self.now.file.now self.now.keys i).key)) (range_with_len 0 self.now.keys) }
+        ensures within { IfSome result (λ i. i < self.now.keys) }
+    {
+        (0..self.keys).find(|&i| self.against(i, key).is_eq())
+    }
+
+    // The number of the first part above a key, or of the first of all where no key is given.
+    fn place_above(&self, key: Option<&Key>) -> Option<usize>
+        ensures is { result ≡ find (λ i. option_map_or (λ k. is_lt (order k.now (part_at self.now.file.now self.now.keys i).key)) key.entry true) (range_with_len 0 self.now.keys) }
+        ensures within { IfSome result (λ i. i < self.now.keys) }
+    {
+        (0..self.keys).find(|&i| self.is_above(i, key))
     }
 }
 
@@ -84,21 +145,13 @@ impl Inventory for Report<'_> {
     ghost few = { λ x h. x.small };
 
     fn find(&self, key: &Key) -> Option<Details> {
-        for i in 0..self.keys {
-            if let Ordering::Equal = against_at(self, i, key) {
-                return Some(part_of(self, i).details);
-            }
-        }
-        None
+        let i = self.place_of(key)?;
+        Some(self.details(i))
     }
 
     fn next(&self, above: Option<&Key>) -> Option<Part<Key, Details>> {
-        for n in 0..self.keys {
-            if is_above(self, n, above) {
-                return Some(part_of(self, n));
-            }
-        }
-        None
+        let i = self.place_above(above)?;
+        Some(self.part(i))
     }
 
     fn count(&self) -> usize {

@@ -1,50 +1,51 @@
-use Rattle.std.proofs.Common.{◌≡◌, ℕ, suc, ◌+◌, ◌-◌, true, false, List, Ok, Err, Result, sym, ap, ◌∙◌, arith}
+use Rattle.std.proofs.Common.{◌≡◌, ℕ, ◌+◌, ◌-◌, true, false, List, is_ok, Ok, Err, sym, ap, ◌∙◌, arith}
 use Rattle.std.proofs.lemmas.Result.{err_from_is_err_and}
-use Rattle.report.specs.Layout.{key_place}
 use Rattle.der.specs.declared.refusal.Refusal.{Refusal}
-use Rattle.report.specs.Checks.{key_at, rises_at, keys_from}
-use Rattle.report.proofs.Steps.{key_good, keys_more, keys_stop, keys_repeated, rises_from, rises_first, good_more}
+use Rattle.der.specs.declared.refusal.Reason.TheVariants.{Repeated}
+use Rattle.parts.specs.declared.key.LentKey.{LentKey}
+use Rattle.parts.specs.Keys.{lent_fields}
+use Rattle.report.specs.Layout.{key_place, key_size, fields_at}
+use Rattle.report.specs.Checks.{key_at}
+use Rattle.report.specs.declared.fields.Record.{Record}
+use Rattle.report.specs.declared.fields.CheckedKey.{CheckedKey}
+use Rattle.report.proofs.Steps.{told_ok, keys_stop, keys_repeated, keys_more, rises_told}
 use Rattle.report.proofs.check.check_keys.Goals as goal
-use Rattle.report.proofs.check.check_keys.Goals.{else-i-gt0-via-then-i-gt0+else-not-rises, else-i-gt0-via-else-i-gt0}
 
-pub returns-in_err-check_key : goal.returns-in_err-check_key
-returns-in_err-check_key c =
-    let xs : List ℕ = c.args.file.now in
-    let i : ℕ = c.loop-i.i in
-    let left : c.args.count - i ≡ suc (c.args.count - (i + 1)) = omega arith in
+-- what a checked key at a place says of the file
+record Met (file : List ℕ) (at : ℕ) (key : LentKey) : Type 0 where
+  checks : key_at file at ≡ Ok tt
+  fields : lent_fields key ≡ fields_at file at
+
+met : (file : List ℕ) (at : ℕ) (r : Record key_size) (k : CheckedKey) (key : LentKey) → r.file.now ≡ file → r.at ≡ at → k.found ≡ r → lent_fields key ≡ fields_at k.found.file.now k.found.at → Met file at key
+met file at r k key f a e l =
+    let file_is : k.found.file.now ≡ file = ap (λ (x : Record key_size). x.file.now) e ∙ f in
+    let at_is : k.found.at ≡ at = ap (λ (x : Record key_size). x.at) e ∙ a in
+    record { checks = told_ok _ (sym (λ j. is_ok (key_at (file_is j) (at_is j))) ∙ k.met); fields = l ∙ (λ j. fields_at (file_is j) (at_is j)) }
+
+pub returns-in_err-check : goal.returns-in_err-check
+returns-in_err-check c =
+    let t = c.args.tables.now in
     let p = err_from_is_err_and c.from_residual.result c.from_residual.ensures.1 in
-    rw (p.1, p.2)
-    (sym (keys_stop xs i (c.args.count - (i + 1)) c.in_err-check_key.field-0.0 (sym c.in_err-check_key.ensures))
-    ∙ (ap (keys_from xs i) (sym left) ∙ c.loop-i.invariant.0))
-
-pub rises-requires : goal.rises-requires
-rises-requires c =
-    let xs : List ℕ = c.args.file.now in
-    let i : ℕ = c.loop-i.i in
-    record {
-      within = (c.if-i-gt0.true, (omega arith, omega arith));
-      before = key_good xs (key_place (i - 1)) (c.loop-i.invariant.1 (i - 1) (omega arith));
-      here = key_good xs (key_place i) (sym c.in_ok-check_key.ensures);
-    }
+    let here : key_at t.file.now (key_place c.loop-i.i) ≡ Err c.in_err-check.field-0.0 = sym (λ j. key_at (c.key-record.ensures.0 j) (c.key-record.ensures.1 j)) ∙ c.in_err-check.ensures in
+    rw (p.1, p.2) (keys_stop t.file.now t.count c.loop-i.i _ _ c.loop-i-test.true here c.loop-i.invariant.so_far)
 
 pub returns-then-not-rises : goal.returns-then-not-rises
 returns-then-not-rises c =
-    let xs : List ℕ = c.args.file.now in
-    let i : ℕ = c.loop-i.i in
-    let left : c.args.count - i ≡ suc (c.args.count - (i + 1)) = omega arith in
-    let mk : Refusal → Result (Unit {0}) Refusal = λ d. Err d in
-    ap mk c.at.ensures
-    ∙ (sym (keys_repeated xs i (c.args.count - (i + 1)) (sym c.in_ok-check_key.ensures) (rises_from xs i false c.if-i-gt0.true c.if-not-rises.ensures))
-    ∙ (ap (keys_from xs i) (sym left) ∙ c.loop-i.invariant.0))
+    let t = c.args.tables.now in
+    let i = c.loop-i.i in
+    let m : Met t.file.now (key_place i) c.lent-key.result = met _ _ c.key-record.result c.in_ok-check.field-0 _ c.key-record.ensures.0 c.key-record.ensures.1 c.in_ok-check.ensures c.lent-key.ensures in
+    let falls = rises_told t.file.now i c.loop-i.before c.lent-key.result false c.loop-i.invariant.before m.fields c.if-not-rises.ensures in
+    ap (λ (e : Refusal). Err e) (c.at.ensures ∙ (λ j. record { reason = Repeated; place = c.key-record.ensures.1 j }))
+    ∙ keys_repeated t.file.now t.count i _ c.loop-i-test.true m.checks falls c.loop-i.invariant.so_far
 
 pub loop-i-preserved : goal.loop-i-preserved
 loop-i-preserved c =
-    let xs : List ℕ = c.args.file.now in
-    let i : ℕ = c.loop-i.i in
-    let left : c.args.count - i ≡ suc (c.args.count - (i + 1)) = omega arith in
-    let here : key_at xs (key_place i) ≡ Ok tt = sym c.in_ok-check_key.ensures in
-    let up : rises_at xs i ≡ true = elim c.else-i-gt0.branch [
-      | else-i-gt0-via-then-i-gt0+else-not-rises w ↦ rises_from xs i true w.if-i-gt0.true w.if-not-rises.ensures
-      | else-i-gt0-via-else-i-gt0 w ↦ rises_first xs i w.if-i-gt0.false
-    ] in
-    (sym (keys_more xs i (c.args.count - (i + 1)) here up) ∙ (ap (keys_from xs i) (sym left) ∙ c.loop-i.invariant.0), good_more xs i c.loop-i.invariant.1 here)
+    let t = c.args.tables.now in
+    let i = c.loop-i.i in
+    let m : Met t.file.now (key_place i) c.lent-key.result = met _ _ c.key-record.result c.in_ok-check.field-0 _ c.key-record.ensures.0 c.key-record.ensures.1 c.in_ok-check.ensures c.lent-key.ensures in
+    let up = rises_told t.file.now i c.loop-i.before c.lent-key.result true c.loop-i.invariant.before m.fields c.if-not-rises.ensures in
+    let back : i ≡ i + 1 - 1 = omega arith in
+    record {
+      so_far = keys_more t.file.now t.count i _ c.loop-i-test.true m.checks up c.loop-i.invariant.so_far;
+      before = (omega arith, m.fields ∙ ap (λ (k : ℕ). fields_at t.file.now (key_place k)) back);
+    }

@@ -1,7 +1,12 @@
-use Rattle.std.proofs.Common.{◌≡◌, ℕ, ◌-◌, ◌<◌, Ok}
-use Rattle.report.specs.Layout.{key_place}
-use Rattle.report.specs.Checks.{key_at, keys_from}
+use Rattle.std.proofs.Common.{◌≡◌, ◌-◌, ◌<◌}
+use Rattle.std.specs.Option.{MatchOption}
+use Rattle.parts.specs.Keys.{lent_fields}
+use Rattle.report.specs.Layout.{key_place, fields_at}
+use Rattle.report.specs.Checks.{keys_from}
 use Rattle.report.proofs.check.check_keys.Given as goal
 
 abbrev pub invariant-loop-i : goal.invariant-loop-i
-invariant-loop-i l = (keys_from l.file l.i (l.count - l.i) ≡ keys_from l.file 0 l.count) × ((k : ℕ) → k < l.i → key_at l.file (key_place k) ≡ Ok tt)
+invariant-loop-i l = record {
+  so_far : keys_from l.tables.file.now l.i (l.tables.count - l.i) ≡ keys_from l.tables.file.now 0 l.tables.count;
+  before : MatchOption l.before (l.i ≡ 0) (λ k. (0 < l.i) × (lent_fields k ≡ fields_at l.tables.file.now (key_place (l.i - 1))));
+}

@@ -1,19 +1,19 @@
-use Rattle.std.proofs.Common.{Some, Option, sym, ap, ◌∙◌, arith}
-use Rattle.model.specs.declared.part.Part.{Part}
-use Rattle.model.proofs.Scan.{lookup_here, lookup_past}
-use Rattle.parts.specs.declared.key.Key.{Key}
+use Rattle.std.proofs.Common.{ℕ, List, Some, sym, ap, ◌∙◌}
+use Rattle.std.specs.Option.{option_map}
 use Rattle.parts.specs.declared.details.Details.{Details}
-use Rattle.parts.specs.Keys.{order}
-use Rattle.report.proofs.Entries.{parts_next}
+use Rattle.report.specs.Meaning.{part_at}
+use Rattle.report.proofs.Entries.{looked_up_in}
 use Rattle.report.proofs.report.ReportInventory.find.Goals as goal
 
-pub returns-in-Equal : goal.returns-in-Equal
-returns-in-Equal c =
-    let x = c.args.self.now in
-    let told : Part Key Details → Option Details = λ q. Some q.details in
-    ap told c.part_of.ensures ∙ lookup_here order c.args.key.now _ _ _ _ (parts_next x.file.now x.keys c.loop-i.i (omega arith)) (sym c.in-Equal.ensures) c.loop-i.invariant
+abbrev details_in : List ℕ → ℕ → ℕ → Details
+details_in file n i = (part_at file n i).details
 
-pub loop-i-preserved : goal.loop-i-preserved
-loop-i-preserved c =
+pub returns-in_err-i : goal.returns-in_err-i
+returns-in_err-i c =
     let x = c.args.self.now in
-    lookup_past order c.args.key.now _ _ _ _ (parts_next x.file.now x.keys c.loop-i.i (omega arith)) (λ same. c.in_default.not-Equal (c.against_at.ensures ∙ same)) c.loop-i.invariant
+    c.from_residual.ensures ∙ ap (option_map (details_in x.file.now x.keys)) c.in_err-i.ensures.is ∙ sym (looked_up_in x.file.now x.keys c.args.key.now x.counted)
+
+pub returns : goal.returns
+returns c =
+    let x = c.args.self.now in
+    ap (λ d. Some d) c.details.ensures ∙ ap (option_map (details_in x.file.now x.keys)) c.in_ok-i.ensures.is ∙ sym (looked_up_in x.file.now x.keys c.args.key.now x.counted)
