@@ -37,6 +37,7 @@ module _ (file : List ℕ) (typed : Bytes file) (kind : Kind) where
     pub configuration : ShowsAttributes file typed kind p.configuration s.attributes
 
   exact_signed : Exact file Anything (signed_at kind) signed_bytes (KeptSigned kind) ShowsSigned
+  unfolding signed_at
   exact_signed =
       exact_inside file typed 0x30 tt (exact_read file typed signed
       (exact_both file typed (exact_leaf file typed leaf.Version) (exact_both file typed (exact_holder file typed) (exact_both file typed (exact_issuer file typed) (exact_both file typed (exact_algorithm file typed)

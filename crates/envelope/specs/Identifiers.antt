@@ -2,6 +2,7 @@
 use Rattle.std.specs.Prelude.{ℕ, List, [], ◌∷◌}
 use Rattle.reader.specs.declared.kind.Kind.{Kind}
 use Rattle.reader.specs.declared.kind.Kind.TheVariants.{Platform, Delta}
+use Rattle.reader.specs.Kinds.{other}
 
 -- 2.23.133.2.25
 abbrev pub credential_type : List ℕ
@@ -41,5 +42,4 @@ type_of Platform = platform_type
 type_of Delta = delta_type
 
 abbrev pub other_type : Kind → List ℕ
-other_type Platform = delta_type
-other_type Delta = platform_type
+other_type kind = type_of (other kind)

@@ -1,7 +1,9 @@
 -- Reading the envelope: the answer for every byte string, refusals included, in the order in which they come. Answers are
 -- places in the file.
-use Rattle.std.specs.Prelude.{ℕ, Bool, cond, not, ◌&&◌, ◌||◌, List, [], ◌∷◌, is_some, Some, None, Option}
+use Rattle.std.specs.Prelude.{ℕ, Bool, cond, not, ◌&&◌, ◌||◌, List, is_some, Some, None, Option}
 use Rattle.std.specs.Ordering.{is_gt}
+use Rattle.std.specs.Option.{option_map}
+use Rattle.std.specs.List.{find}
 use Rattle.der.specs.declared.refusal.Reason.TheVariants.{BadContent, Repeated, EntryMissing, CriticalMark, AlgorithmsDiffer, OtherKind}
 use Rattle.reader.specs.declared.kind.Kind.{Kind}
 use Rattle.reader.specs.declared.span.Span.{Span}
@@ -51,8 +53,7 @@ validity_at = inside 0x30 (judged in_order BadContent (λ _ v. v.first.to) (read
 
 -- the value of the first entry with this identifier, or none
 abbrev pub value_in : List ℕ → List ℕ → List EntryPlaces → Option Span
-value_in file identifier [] = None
-value_in file identifier (e ∷ es) = cond (same (cut file e.identifier) identifier) (Some e.value) (value_in file identifier es)
+value_in file identifier es = option_map (λ (e : EntryPlaces). e.value) (find (λ (e : EntryPlaces). same (cut file e.identifier) identifier) es)
 
 -- an identifier that no entry before has, else refused at the entry
 abbrev pub new_identifier_at : ℕ → List EntryPlaces → Reader Span
@@ -84,6 +85,10 @@ attribute_at kind seen = within 0x30 (λ at. read entry (chain (new_identifier_a
 abbrev pub have_all : List ℕ → List ℕ → List ℕ → List ℕ → List EntryPlaces → Bool
 have_all a b c file es = is_some (value_in file a es) && (is_some (value_in file b es) && is_some (value_in file c es))
 
+-- a list of entries, in which the three are there
+abbrev pub required_at : List ℕ → List ℕ → List ℕ → (List EntryPlaces → Reader EntryPlaces) → Reader (List EntryPlaces)
+required_at a b c reader = judged (have_all a b c) EntryMissing (λ at _. at) (list_at 0x30 most_entries reader)
+
 -- a place, or none in particular
 abbrev pub place_or : Option Span → Span
 place_or (Some s) = s
@@ -93,7 +98,7 @@ place_or None = record { from = 0; to = 0 }
 abbrev pub attributes_at : Kind → Reader Span
 attributes_at kind =
     read_in (λ file es. place_or (value_in file platform_configuration es))
-    (judged (have_all credential_type credential_specification platform_configuration) EntryMissing (λ at _. at) (list_at 0x30 most_entries (attribute_at kind)))
+    (required_at credential_type credential_specification platform_configuration (attribute_at kind))
 
 -- an extension before its mark is judged: its identifier, its mark, its value
 abbrev pub marked_at : List EntryPlaces → Reader (Span × (Option Span × Span))
@@ -109,7 +114,7 @@ extension_at seen = read (λ p. entry (p.0, p.1.1)) (judged may_be_marked Critic
 
 -- the extensions; nothing of them is shown
 abbrev pub extensions_at : Reader (Unit {0})
-extensions_at = read (λ _. tt) (judged (have_all subject_alt_name certificate_policies authority_key_identifier) EntryMissing (λ at _. at) (list_at 0x30 most_entries extension_at))
+extensions_at = read (λ _. tt) (required_at subject_alt_name certificate_policies authority_key_identifier extension_at)
 
 -- the fields of the signed part, of what is read one behind the other
 abbrev pub signed : Span × (ReferencePlaces × (Span × (Span × (Span × (ValidityPlaces × (Span × Unit {0})))))) → SignedPlaces
@@ -123,7 +128,7 @@ signed p = record {
 }
 
 -- the signed part
-abbrev pub signed_at : Kind → Reader SignedPlaces
+unfoldable pub signed_at : Kind → Reader SignedPlaces
 signed_at kind =
     inside 0x30 (read signed (both (leaf_at leaf.Version) (both holder_at (both issuer_at (both algorithm_at (both (leaf_at leaf.Serial) (both validity_at (both (attributes_at kind) extensions_at))))))))
 

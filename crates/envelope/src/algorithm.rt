@@ -1,19 +1,24 @@
 // The algorithm of a signature.
-ghost use Rattle.std.specs.Prelude.{◌≡◌};
+ghost use Rattle.reader.specs.Readers.{Reads};
 ghost use Rattle.envelope.specs.Readings.{algorithm_at};
 
-use der::element::tagged_at;
+use der::cursor::Cursor;
 use der::refusal::Refusal;
-use reader::leaf::{Leaf, end_at, further_at, leaf_at};
+use der::tag::SEQUENCE;
+use reader::leaf::{Leaf, pass_over_any};
 use reader::span::Span;
 
 // An identifier and at most one element passed over: where the whole stands.
-pub(crate) fn algorithm_at(file: &[u8], at: usize, end: usize) -> Result<(Span, usize), Refusal>
-    ensures { result ≡ algorithm_at file.now at end }
+pub(crate) fn read_algorithm(cursor: &mut Cursor<'_>) -> Result<Span, Refusal>
+    ensures { Reads algorithm_at cursor.old cursor.new result }
 {
-    let (from, to) = tagged_at(file, at, end, 0x30)?;
-    let (_, next) = leaf_at(file, from, to, Leaf::Identifier)?;
-    let (_, next) = further_at(file, next, to)?;
-    end_at(next, to)?;
-    Ok((Span { from: at, to }, to))
+    let from = cursor.at;
+    let mut inner = cursor.enter(SEQUENCE)?;
+    Leaf::Identifier.read(&mut inner)?;
+    pass_over_any(&mut inner)?;
+    inner.close()?;
+    Ok(Span {
+        from,
+        to: inner.end,
+    })
 }

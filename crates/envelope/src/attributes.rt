@@ -1,61 +1,60 @@
 // The attributes of a certificate.
-ghost use Rattle.std.specs.Prelude.{◌≡◌};
+ghost use Rattle.reader.specs.Readers.{Reads, cut};
 ghost use Rattle.envelope.specs.Readings.{kind_at, type_at, value_at, attribute_at, attributes_at};
-ghost use Rattle.reader.specs.Readers.{Forward, cut};
 
-use crate::entry::{EntryPlaces, new_identifier_at, value_in};
+use crate::entry::{EntryPlaces, read_new_identifier, read_required, value_in};
 use crate::identifiers::{
-    CREDENTIAL_SPECIFICATION, CREDENTIAL_TYPE, PLATFORM_CONFIGURATION, other_type, type_of,
+    CREDENTIAL_SPECIFICATION, CREDENTIAL_TYPE, PLATFORM_CONFIGURATION, type_of,
 };
-use der::element::tagged_at;
+use der::cursor::Cursor;
 use der::refusal::{Reason, Refusal};
-use reader::entries::{EntryReader, list_at};
+use der::tag::{SEQUENCE, SET};
+use reader::entries::EntryReader;
 use reader::kind::Kind;
-use reader::leaf::{Leaf, end_at, leaf_at, passed_at};
+use reader::leaf::{Leaf, pass_over};
 use reader::span::Span;
 
 // The identifier of the wanted kind of certificate.
-fn kind_at(file: &[u8], at: usize, end: usize, kind: Kind) -> Result<(Span, usize), Refusal>
-    ensures { result ≡ kind_at kind file.now at end }
+fn read_kind(cursor: &mut Cursor<'_>, kind: Kind) -> Result<Span, Refusal>
+    ensures { Reads (kind_at kind) cursor.old cursor.new result }
 {
-    let (identifier, next) = leaf_at(file, at, end, Leaf::Identifier)?;
-    let own = identifier.says(file, &type_of(kind));
-    if !own && !identifier.says(file, &other_type(kind)) {
+    let at = cursor.at;
+    let identifier = Leaf::Identifier.read(cursor)?;
+    let own = identifier.says(cursor.file, &type_of(kind));
+    if !own && !identifier.says(cursor.file, &type_of(kind.other())) {
         return Err(Reason::BadContent.at(at));
     }
     if !own {
         return Err(Reason::OtherKind.at(at));
     }
-    Ok((identifier, next))
+    Ok(identifier)
 }
 
 // The element that says which kind of certificate this is.
-fn type_at(file: &[u8], at: usize, end: usize, kind: Kind) -> Result<(Span, usize), Refusal>
-    ensures { result ≡ type_at kind file.now at end }
+fn read_type(cursor: &mut Cursor<'_>, kind: Kind) -> Result<Span, Refusal>
+    ensures { Reads (type_at kind) cursor.old cursor.new result }
 {
-    let (from, to) = tagged_at(file, at, end, 0x30)?;
-    let (_, next) = kind_at(file, from, to, kind)?;
-    end_at(next, to)?;
-    Ok((Span { from: at, to }, to))
+    let from = cursor.at;
+    let mut inner = cursor.enter(SEQUENCE)?;
+    read_kind(&mut inner, kind)?;
+    inner.close()?;
+    Ok(Span {
+        from,
+        to: inner.end,
+    })
 }
 
 // The element of an attribute: the type is read, any other is passed over.
-fn value_at(
-    file: &[u8],
-    at: usize,
-    end: usize,
-    kind: Kind,
-    identifier: Span,
-) -> Result<(Span, usize), Refusal>
-    ensures { result ≡ value_at kind (cut file.now identifier) file.now at end }
+fn read_value(cursor: &mut Cursor<'_>, kind: Kind, identifier: Span) -> Result<Span, Refusal>
+    ensures { Reads (value_at kind (cut cursor.old.file.now identifier)) cursor.old cursor.new result }
 {
-    if identifier.says(file, &CREDENTIAL_TYPE) {
-        return type_at(file, at, end, kind);
+    if identifier.says(cursor.file, &CREDENTIAL_TYPE) {
+        return read_type(cursor, kind);
     }
-    passed_at(file, at, end)
+    pass_over(cursor)
 }
 
-// The attributes of one kind of certificate.
+// The attributes of one kind of certificate. Apart from the other reader of a kind, since what they read differs.
 #[derive(Clone, Copy)]
 pub(crate) struct AttributeReader {
     pub kind: Kind,
@@ -66,43 +65,29 @@ impl EntryReader for AttributeReader {
 
     ghost reads = { λ x. attribute_at x.kind };
 
-    fn read(
-        &self,
-        seen: &[EntryPlaces],
-        file: &[u8],
-        at: usize,
-        end: usize,
-    ) -> Result<(EntryPlaces, usize), Refusal> {
-        let (from, to) = tagged_at(file, at, end, 0x30)?;
-        let (identifier, next) = new_identifier_at(file, from, to, seen, at)?;
-        let (inner, inner_end) = tagged_at(file, next, to, 0x31)?;
-        let (value, next) = value_at(file, inner, inner_end, self.kind, identifier)?;
-        end_at(next, inner_end)?;
-        end_at(inner_end, to)?;
-        Ok((EntryPlaces { identifier, value }, to))
+    fn read(&self, seen: &[EntryPlaces], cursor: &mut Cursor<'_>) -> Result<EntryPlaces, Refusal> {
+        let at = cursor.at;
+        let mut inner = cursor.enter(SEQUENCE)?;
+        let identifier = read_new_identifier(&mut inner, seen, at)?;
+        let mut values = inner.enter(SET)?;
+        let value = read_value(&mut values, self.kind, identifier)?;
+        values.close()?;
+        inner.close()?;
+        Ok(EntryPlaces { identifier, value })
     }
 }
 
-// The attributes: where the configuration's element stands, and what follows them.
-pub(crate) fn attributes_at(
-    file: &[u8],
-    at: usize,
-    end: usize,
-    kind: Kind,
-) -> Result<(Span, usize), Refusal>
-    ensures { result ≡ attributes_at kind file.now at end }
+// The attributes: where the configuration's element stands.
+pub(crate) fn read_attributes(cursor: &mut Cursor<'_>, kind: Kind) -> Result<Span, Refusal>
+    ensures { Reads (attributes_at kind) cursor.old cursor.new result }
 {
-    let mut space = [EntryPlaces::blank(); 16];
-    let (count, next) = list_at(&AttributeReader { kind }, file, at, end, 0x30, &mut space)?;
-    let entries = &space[0..count];
-    let missing = Reason::EntryMissing.at(at);
-    if value_in(file, entries, &CREDENTIAL_TYPE).is_none()
-        || value_in(file, entries, &CREDENTIAL_SPECIFICATION).is_none()
-    {
-        return Err(missing);
-    }
-    match value_in(file, entries, &PLATFORM_CONFIGURATION) {
-        Some(configuration) => Ok((configuration, next)),
-        None => Err(missing),
-    }
+    let attributes = read_required(
+        &AttributeReader { kind },
+        cursor,
+        &CREDENTIAL_TYPE,
+        &CREDENTIAL_SPECIFICATION,
+        &PLATFORM_CONFIGURATION,
+    )?;
+    let configuration = value_in(cursor.file, attributes.as_slice(), &PLATFORM_CONFIGURATION);
+    Ok(configuration.unwrap_or_default())
 }

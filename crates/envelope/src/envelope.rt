@@ -1,13 +1,14 @@
 // The envelope: the signed part, the algorithm again, and the signature.
-ghost use Rattle.std.specs.Prelude.{◌≡◌};
+ghost use Rattle.reader.specs.Readers.{Reads};
 ghost use Rattle.envelope.specs.Readings.{envelope_at};
 
-use crate::algorithm::algorithm_at;
-use crate::signed::{SignedPlaces, signed_at};
-use der::element::tagged_at;
+use crate::algorithm::read_algorithm;
+use crate::signed::{SignedPlaces, read_signed};
+use der::cursor::Cursor;
 use der::refusal::{Reason, Refusal};
+use der::tag::SEQUENCE;
 use reader::kind::Kind;
-use reader::leaf::{Leaf, end_at, leaf_at};
+use reader::leaf::Leaf;
 use reader::span::Span;
 
 // Where the signed part stands as a whole, where its fields do, and where the content of the signature does.
@@ -18,27 +19,23 @@ pub struct EnvelopePlaces {
     pub signature: Span,
 }
 
-pub fn envelope_at(
-    file: &[u8],
-    at: usize,
-    end: usize,
-    kind: Kind,
-) -> Result<(EnvelopePlaces, usize), Refusal>
-    ensures { result ≡ envelope_at kind file.now at end }
+// The envelope of a certificate of a kind. The cursor then stands behind it.
+pub fn read_envelope(cursor: &mut Cursor<'_>, kind: Kind) -> Result<EnvelopePlaces, Refusal>
+    ensures { Reads (envelope_at kind) cursor.old cursor.new result }
 {
-    let (from, to) = tagged_at(file, at, end, 0x30)?;
-    let (fields, next) = signed_at(file, from, to, kind)?;
-    let signed = Span { from, to: next };
-    let (algorithm, next) = algorithm_at(file, next, to)?;
-    if !fields.algorithm.says(file, algorithm.of(file)) {
+    let mut inner = cursor.enter(SEQUENCE)?;
+    let from = inner.at;
+    let fields = read_signed(&mut inner, kind)?;
+    let signed = Span { from, to: inner.at };
+    let algorithm = read_algorithm(&mut inner)?;
+    if !fields.algorithm.says(inner.file, algorithm.of(inner.file)) {
         return Err(Reason::AlgorithmsDiffer.at(algorithm.from));
     }
-    let (signature, next) = leaf_at(file, next, to, Leaf::Signature)?;
-    end_at(next, to)?;
-    let envelope = EnvelopePlaces {
+    let signature = Leaf::Signature.read(&mut inner)?;
+    inner.close()?;
+    Ok(EnvelopePlaces {
         signed,
         fields,
         signature,
-    };
-    Ok((envelope, to))
+    })
 }

@@ -1,13 +1,14 @@
 // The extensions of a certificate.
-ghost use Rattle.std.specs.Prelude.{◌≡◌};
+ghost use Rattle.reader.specs.Readers.{Reads};
 ghost use Rattle.envelope.specs.Readings.{extension_at, extensions_at};
 
-use crate::entry::{EntryPlaces, new_identifier_at, value_in};
+use crate::entry::{EntryPlaces, read_new_identifier, read_required};
 use crate::identifiers::{AUTHORITY_KEY_IDENTIFIER, CERTIFICATE_POLICIES, SUBJECT_ALT_NAME};
-use der::element::tagged_at;
+use der::cursor::Cursor;
 use der::refusal::{Reason, Refusal};
-use reader::entries::{EntryReader, list_at};
-use reader::leaf::{Leaf, end_at, leaf_at, optional_at};
+use der::tag::SEQUENCE;
+use reader::entries::EntryReader;
+use reader::leaf::Leaf;
 
 // Extensions of which only the policies may be critical.
 #[derive(Clone, Copy)]
@@ -18,37 +19,30 @@ impl EntryReader for ExtensionReader {
 
     ghost reads = { λ _. extension_at };
 
-    fn read(
-        &self,
-        seen: &[EntryPlaces],
-        file: &[u8],
-        at: usize,
-        end: usize,
-    ) -> Result<(EntryPlaces, usize), Refusal> {
-        let (from, to) = tagged_at(file, at, end, 0x30)?;
-        let (identifier, next) = new_identifier_at(file, from, to, seen, at)?;
-        let (critical, next) = optional_at(file, next, to, Leaf::Critical)?;
-        let (value, next) = leaf_at(file, next, to, Leaf::Opaque(0x04))?;
-        end_at(next, to)?;
-        if critical.is_some() && !identifier.says(file, &CERTIFICATE_POLICIES) {
+    fn read(&self, seen: &[EntryPlaces], cursor: &mut Cursor<'_>) -> Result<EntryPlaces, Refusal> {
+        let at = cursor.at;
+        let mut inner = cursor.enter(SEQUENCE)?;
+        let identifier = read_new_identifier(&mut inner, seen, at)?;
+        let critical = Leaf::Critical.read_optional(&mut inner)?;
+        let value = Leaf::Opaque(0x04).read(&mut inner)?;
+        inner.close()?;
+        if critical.is_some() && !identifier.says(inner.file, &CERTIFICATE_POLICIES) {
             return Err(Reason::CriticalMark.at(at));
         }
-        Ok((EntryPlaces { identifier, value }, to))
+        Ok(EntryPlaces { identifier, value })
     }
 }
 
-// The extensions, and what follows them.
-pub(crate) fn extensions_at(file: &[u8], at: usize, end: usize) -> Result<((), usize), Refusal>
-    ensures { result ≡ extensions_at file.now at end }
+// The extensions; nothing of them is kept.
+pub(crate) fn read_extensions(cursor: &mut Cursor<'_>) -> Result<(), Refusal>
+    ensures { Reads extensions_at cursor.old cursor.new result }
 {
-    let mut space = [EntryPlaces::blank(); 16];
-    let (count, next) = list_at(&ExtensionReader {}, file, at, end, 0x30, &mut space)?;
-    let entries = &space[0..count];
-    if value_in(file, entries, &SUBJECT_ALT_NAME).is_none()
-        || value_in(file, entries, &CERTIFICATE_POLICIES).is_none()
-        || value_in(file, entries, &AUTHORITY_KEY_IDENTIFIER).is_none()
-    {
-        return Err(Reason::EntryMissing.at(at));
-    }
-    Ok(((), next))
+    read_required(
+        &ExtensionReader {},
+        cursor,
+        &SUBJECT_ALT_NAME,
+        &CERTIFICATE_POLICIES,
+        &AUTHORITY_KEY_IDENTIFIER,
+    )?;
+    Ok(())
 }

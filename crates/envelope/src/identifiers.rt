@@ -1,6 +1,6 @@
 // The content bytes of the object identifiers that are looked for.
 ghost use Rattle.std.specs.Prelude.{◌≡◌};
-ghost use Rattle.envelope.specs.Identifiers.{type_of, other_type};
+ghost use Rattle.envelope.specs.Identifiers.{type_of};
 
 use reader::kind::Kind;
 
@@ -35,15 +35,5 @@ pub(crate) fn type_of(kind: Kind) -> [u8; 5]
     match kind {
         Kind::Platform => PLATFORM_TYPE,
         Kind::Delta => DELTA_TYPE,
-    }
-}
-
-// The type of the other kind.
-pub(crate) fn other_type(kind: Kind) -> [u8; 5]
-    ensures { result ≡ other_type kind }
-{
-    match kind {
-        Kind::Platform => DELTA_TYPE,
-        Kind::Delta => PLATFORM_TYPE,
     }
 }

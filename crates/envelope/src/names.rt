@@ -1,13 +1,15 @@
 // Names, and references to a certificate by its issuer and serial.
-ghost use Rattle.std.specs.Prelude.{◌≡◌};
+ghost use Rattle.reader.specs.Readers.{Reads};
 ghost use Rattle.envelope.specs.Readings.{named_at, issuer_at, holder_at};
 
-use der::element::tagged_at;
+use der::cursor::Cursor;
 use der::refusal::Refusal;
-use reader::leaf::{Leaf, end_at, leaf_at};
+use der::tag::SEQUENCE;
+use reader::leaf::Leaf;
 use reader::span::Span;
 
-// A reference to a certificate: where the name of its issuer and its serial stand.
+// A reference to a certificate: where the name of its issuer and its serial stand. A head of parts has
+// the same fields as values with bounds of their own, so the two share no struct.
 #[derive(Clone, Copy)]
 pub struct ReferencePlaces {
     pub issuer: Span,
@@ -15,38 +17,34 @@ pub struct ReferencePlaces {
 }
 
 // A SEQUENCE of one name.
-fn named_at(file: &[u8], at: usize, end: usize) -> Result<(Span, usize), Refusal>
-    ensures { result ≡ named_at file.now at end }
+fn read_named(cursor: &mut Cursor<'_>) -> Result<Span, Refusal>
+    ensures { Reads named_at cursor.old cursor.new result }
 {
-    let (from, to) = tagged_at(file, at, end, 0x30)?;
-    let (name, next) = leaf_at(file, from, to, Leaf::Name)?;
-    end_at(next, to)?;
-    Ok((name, to))
+    let mut inner = cursor.enter(SEQUENCE)?;
+    let name = Leaf::Name.read(&mut inner)?;
+    inner.close()?;
+    Ok(name)
 }
 
 // The issuer of a certificate.
-pub(crate) fn issuer_at(file: &[u8], at: usize, end: usize) -> Result<(Span, usize), Refusal>
-    ensures { result ≡ issuer_at file.now at end }
+pub(crate) fn read_issuer(cursor: &mut Cursor<'_>) -> Result<Span, Refusal>
+    ensures { Reads issuer_at cursor.old cursor.new result }
 {
-    let (from, to) = tagged_at(file, at, end, 0xa0)?;
-    let (name, next) = named_at(file, from, to)?;
-    end_at(next, to)?;
-    Ok((name, to))
+    let mut inner = cursor.enter(0xa0)?;
+    let name = read_named(&mut inner)?;
+    inner.close()?;
+    Ok(name)
 }
 
 // The holder of a certificate: a reference to another one.
-pub(crate) fn holder_at(
-    file: &[u8],
-    at: usize,
-    end: usize,
-) -> Result<(ReferencePlaces, usize), Refusal>
-    ensures { result ≡ holder_at file.now at end }
+pub(crate) fn read_holder(cursor: &mut Cursor<'_>) -> Result<ReferencePlaces, Refusal>
+    ensures { Reads holder_at cursor.old cursor.new result }
 {
-    let (outer, outer_end) = tagged_at(file, at, end, 0x30)?;
-    let (from, to) = tagged_at(file, outer, outer_end, 0xa0)?;
-    let (issuer, next) = named_at(file, from, to)?;
-    let (serial, next) = leaf_at(file, next, to, Leaf::Serial)?;
-    end_at(next, to)?;
-    end_at(to, outer_end)?;
-    Ok((ReferencePlaces { issuer, serial }, outer_end))
+    let mut outer = cursor.enter(SEQUENCE)?;
+    let mut inner = outer.enter(0xa0)?;
+    let issuer = read_named(&mut inner)?;
+    let serial = Leaf::Serial.read(&mut inner)?;
+    inner.close()?;
+    outer.close()?;
+    Ok(ReferencePlaces { issuer, serial })
 }

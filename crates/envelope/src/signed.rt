@@ -1,16 +1,17 @@
 // The signed part of a certificate.
-ghost use Rattle.std.specs.Prelude.{◌≡◌};
+ghost use Rattle.reader.specs.Readers.{Reads};
 ghost use Rattle.envelope.specs.Readings.{signed_at};
 
-use crate::algorithm::algorithm_at;
-use crate::attributes::attributes_at;
-use crate::extensions::extensions_at;
-use crate::names::{ReferencePlaces, holder_at, issuer_at};
-use crate::validity::{ValidityPlaces, validity_at};
-use der::element::tagged_at;
+use crate::algorithm::read_algorithm;
+use crate::attributes::read_attributes;
+use crate::extensions::read_extensions;
+use crate::names::{ReferencePlaces, read_holder, read_issuer};
+use crate::validity::{ValidityPlaces, read_validity};
+use der::cursor::Cursor;
 use der::refusal::Refusal;
+use der::tag::SEQUENCE;
 use reader::kind::Kind;
-use reader::leaf::{Leaf, end_at, leaf_at};
+use reader::leaf::Leaf;
 use reader::span::Span;
 
 // Where the fields of the signed part stand; of the configuration the whole element.
@@ -24,31 +25,26 @@ pub struct SignedPlaces {
     pub configuration: Span,
 }
 
-pub(crate) fn signed_at(
-    file: &[u8],
-    at: usize,
-    end: usize,
-    kind: Kind,
-) -> Result<(SignedPlaces, usize), Refusal>
-    ensures { result ≡ signed_at kind file.now at end }
+#[tactic(auto, unfolding(crate::specs::Readings::signed_at))]
+pub(crate) fn read_signed(cursor: &mut Cursor<'_>, kind: Kind) -> Result<SignedPlaces, Refusal>
+    ensures { Reads (signed_at kind) cursor.old cursor.new result }
 {
-    let (from, to) = tagged_at(file, at, end, 0x30)?;
-    let (_, next) = leaf_at(file, from, to, Leaf::Version)?;
-    let (holder, next) = holder_at(file, next, to)?;
-    let (issuer, next) = issuer_at(file, next, to)?;
-    let (algorithm, next) = algorithm_at(file, next, to)?;
-    let (serial, next) = leaf_at(file, next, to, Leaf::Serial)?;
-    let (validity, next) = validity_at(file, next, to)?;
-    let (configuration, next) = attributes_at(file, next, to, kind)?;
-    let (_, next) = extensions_at(file, next, to)?;
-    end_at(next, to)?;
-    let signed = SignedPlaces {
+    let mut inner = cursor.enter(SEQUENCE)?;
+    Leaf::Version.read(&mut inner)?;
+    let holder = read_holder(&mut inner)?;
+    let issuer = read_issuer(&mut inner)?;
+    let algorithm = read_algorithm(&mut inner)?;
+    let serial = Leaf::Serial.read(&mut inner)?;
+    let validity = read_validity(&mut inner)?;
+    let configuration = read_attributes(&mut inner, kind)?;
+    read_extensions(&mut inner)?;
+    inner.close()?;
+    Ok(SignedPlaces {
         holder,
         issuer,
         algorithm,
         serial,
         validity,
         configuration,
-    };
-    Ok((signed, to))
+    })
 }

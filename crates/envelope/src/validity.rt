@@ -1,13 +1,13 @@
 // The time in which a certificate is valid.
-ghost use Rattle.std.specs.Prelude.{◌≡◌};
+ghost use Rattle.reader.specs.Readers.{Reads};
 ghost use Rattle.envelope.specs.Readings.{validity_at};
 
-use der::element::tagged_at;
+use der::cursor::Cursor;
 use der::refusal::{Reason, Refusal};
+use der::tag::SEQUENCE;
 use parts::key::calls::bytewise;
-use reader::leaf::{Leaf, end_at, leaf_at};
+use reader::leaf::Leaf;
 use reader::span::Span;
-use std::cmp::Ordering;
 
 // Where the first and the last moment stand.
 #[derive(Clone, Copy)]
@@ -16,19 +16,15 @@ pub struct ValidityPlaces {
     pub last: Span,
 }
 
-pub(crate) fn validity_at(
-    file: &[u8],
-    at: usize,
-    end: usize,
-) -> Result<(ValidityPlaces, usize), Refusal>
-    ensures { result ≡ validity_at file.now at end }
+pub(crate) fn read_validity(cursor: &mut Cursor<'_>) -> Result<ValidityPlaces, Refusal>
+    ensures { Reads validity_at cursor.old cursor.new result }
 {
-    let (from, to) = tagged_at(file, at, end, 0x30)?;
-    let (first, next) = leaf_at(file, from, to, Leaf::Time)?;
-    let (last, after) = leaf_at(file, next, to, Leaf::Time)?;
-    if let Ordering::Greater = bytewise(first.of(file), last.of(file)) {
+    let mut inner = cursor.enter(SEQUENCE)?;
+    let first = Leaf::Time.read(&mut inner)?;
+    let last = Leaf::Time.read(&mut inner)?;
+    if bytewise(first.of(inner.file), last.of(inner.file)).is_gt() {
         return Err(Reason::BadContent.at(first.to));
     }
-    end_at(after, to)?;
-    Ok((ValidityPlaces { first, last }, to))
+    inner.close()?;
+    Ok(ValidityPlaces { first, last })
 }
