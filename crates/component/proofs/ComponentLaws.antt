@@ -214,7 +214,6 @@ module _ (file : List ℕ) (typed : Bytes file) where
       (optional_more file typed (leaf.Opaque 0xA6) (0x87 ∷ []) refl (optional_last file typed leaf.Status)))
 
   fields : Optional file (0x81 ∷ 0x82 ∷ 0x83 ∷ 0xA4 ∷ 0xA5 ∷ 0xA6 ∷ 0x87 ∷ []) fields_at seven_bytes KeptSeven ShowsSeven
-  unfolding fields_at
   fields =
       optional_more file typed leaf.Revision (0x82 ∷ 0x83 ∷ 0xA4 ∷ 0xA5 ∷ 0xA6 ∷ 0x87 ∷ []) refl
       (optional_more file typed (leaf.Opaque 0x82) (0x83 ∷ 0xA4 ∷ 0xA5 ∷ 0xA6 ∷ 0x87 ∷ []) refl
@@ -247,7 +246,6 @@ module _ (file : List ℕ) (typed : Bytes file) where
         (λ p c g s. (s.0, (s.1.0, (s.1.1.1.0, s.1.1.1.1.1.1.1))))
 
     pub exact_component : Exact file Anything (component_at kind seen) component_bytes (λ (c : Component). StatusAsked kind c × New c.key) (ShowsComponent file)
-    unfolding component_at
     exact_component =
         exact_as (λ c g. (g.1, g.0)) (λ c g. (g.1, g.0)) (λ p c s. s)
         (exact_judged file typed component (λ f p. is_asked kind (is_some p.status)) reason.Status (λ at p. at) {Holds = StatusAsked kind} (λ p c s g. asked file kind p.status c.status s.1.1.1))

@@ -101,7 +101,6 @@ module _ (file : List ℕ) (typed : Bytes file) (kind : Kind) where
   ShowsThree p x = ShowsField file p.0 x.0 × (ShowsField file p.1.0 x.1.0 × ShowsField file p.1.1 x.1.1)
 
   behind : Optional file (0xA1 ∷ 0xA2 ∷ 0xA3 ∷ []) behind_at three_bytes KeptThree ShowsThree
-  unfolding behind_at
   behind =
       optional_more file typed (leaf.Opaque 0xA1) (0xA2 ∷ 0xA3 ∷ []) refl
       (optional_more file typed (leaf.Opaque 0xA2) (0xA3 ∷ []) refl (optional_last file typed (leaf.Opaque 0xA3)))
@@ -127,7 +126,6 @@ module _ (file : List ℕ) (typed : Bytes file) (kind : Kind) where
 
   -- a configuration is read exactly where its encoding stands, and the places mean its components
   pub exact_configuration : Exact file Anything (configuration_at kind) configuration_bytes (KeptConfiguration kind) (ShowsConfiguration file)
-  unfolding configuration_at
   exact_configuration =
       exact_as (λ c g. g) (λ c g. g) (λ p c s. record { list = s.0; means = show_all p.1 c.components (component_shown file) s.1 })
       (exact_inside file typed 0x30 {Follows = Nothing} refl contents)

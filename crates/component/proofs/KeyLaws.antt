@@ -1,6 +1,7 @@
 -- Keys are read exactly, and told apart where they stand.
-use Rattle.std.proofs.Common.{◌≡◌, ℕ, Bool, true, false, cond, not, ◌&&◌, List, ◌++◌, is_some, Some, None, Decides, Option, sym, refl, ap, ◌∙◌, subst}
+use Rattle.std.proofs.Common.{◌≡◌, ℕ, Bool, true, false, cond, not, ◌&&◌, List, [], ◌∷◌, ◌++◌, is_some, Some, None, Decides, Option, sym, refl, ap, ◌∙◌, subst}
 use Rattle.std.specs.Str.{bytes_eq}
+use Rattle.std.specs.List.{list_all}
 use Rattle.std.proofs.lemmas.Slice.Eq.{bytes_eq-Decides}
 use Rattle.std.proofs.lemmas.Bool.{false≢true}
 use Rattle.der.specs.declared.refusal.Reason.TheVariants as reason
@@ -22,16 +23,16 @@ use Rattle.reader.specs.Leaves.{Kept}
 use Rattle.reader.proofs.Exact.{Exact, Anything, exact_inside, exact_both, exact_read, exact_judged}
 use Rattle.reader.proofs.LeafLaws.{exact_leaf}
 use Rattle.component.specs.declared.places.KeyPlaces.{KeyPlaces}
+use Rattle.component.specs.declared.places.ComponentPlaces.{ComponentPlaces}
 use Rattle.component.specs.Registries.{registry_bytes, registry_named}
 use Rattle.component.specs.Syntax.{key_bytes}
-use Rattle.component.specs.Readings.{is_registry, class_at, key_places, key_at, same_key}
+use Rattle.component.specs.Readings.{is_registry, class_at, key_places, key_at, same_key, is_new}
 use Rattle.component.specs.Meaning.{registry_number, key_in}
-use Rattle.component.proofs.Makings.{four_same}
+use Rattle.component.proofs.Makings.{four_same, registry_back}
 
 -- ---- registries
 
 pub bytes_named : (r : Registry) → registry_named (registry_bytes r) ≡ Some r
-unfolding registry_named
 bytes_named Tcg = refl
 bytes_named Dmtf = refl
 bytes_named Pcie = refl
@@ -39,12 +40,6 @@ bytes_named Storage = refl
 
 pub number_named : (r : Registry) → registry_number (registry_bytes r) ≡ number_of r
 number_named r = ap (λ (o : Option Registry). number_of (registry_or o)) (bytes_named r)
-
-registry_back : (r : Registry) → registry_or (registry_of (number_of r)) ≡ r
-registry_back Tcg = refl
-registry_back Dmtf = refl
-registry_back Pcie = refl
-registry_back Storage = refl
 
 by_tests : (c : List ℕ) (a b d e : Bool) → (a ≡ true → c ≡ registry_bytes Tcg) → (b ≡ true → c ≡ registry_bytes Dmtf) → (d ≡ true → c ≡ registry_bytes Pcie) → (e ≡ true → c ≡ registry_bytes Storage) →
     is_some (cond a (Some Tcg) (cond b (Some Dmtf) (cond d (Some Pcie) (cond e (Some Storage) None)))) ≡ true →
@@ -56,7 +51,6 @@ by_tests c false false false true pa pb pd pe h = sym (pe refl)
 by_tests c false false false false pa pb pd pe h = absurd (false≢true h)
 
 pub named_back : (c : List ℕ) → is_some (registry_named c) ≡ true → registry_bytes (registry_or (registry_named c)) ≡ c
-unfolding registry_named
 named_back c h =
     by_tests c
     (bytes_eq c (registry_bytes Tcg)) (bytes_eq c (registry_bytes Dmtf)) (bytes_eq c (registry_bytes Pcie)) (bytes_eq c (registry_bytes Storage))
@@ -119,11 +113,9 @@ module _ (file : List ℕ) (typed : Bytes file) where
   known s c e g = (λ h. subst Known e h, λ h. subst Known (sym e) h)
 
   exact_class : Exact file Anything class_at (λ (x : List ℕ × List ℕ). encoded 0x30 (encoded 0x06 x.0 ++ encoded 0x04 x.1)) (λ (x : List ℕ × List ℕ). (Kept leaf.Identifier x.0 × Known x.0) × Kept leaf.Class x.1) (λ (p : Span × Span) (x : List ℕ × List ℕ). (cut file p.0 ≡ x.0) × (cut file p.1 ≡ x.1))
-  unfolding class_at
   exact_class = exact_inside file typed 0x30 {Follows = Anything} tt (exact_both file typed (exact_judged file typed (exact_leaf file typed leaf.Identifier) is_registry reason.BadContent (λ at s. at) {Holds = Known} known) (exact_leaf file typed leaf.Class))
 
   pub exact_key : Exact file Anything key_at key_bytes (λ (k : Key). Unit {0}) (ShowsKey file)
-  unfolding key_at
   exact_key =
       exact_read file typed {bytes = content_bytes} {Good = KeptContents} {Shows = ShowsContents} key_places
       (exact_both file typed exact_class (exact_both file typed (exact_leaf file typed leaf.Text) (exact_both file typed (exact_leaf file typed leaf.Text) (exact_leaf file typed leaf.SerialText))))
@@ -133,6 +125,10 @@ module _ (file : List ℕ) (typed : Bytes file) where
       (λ p x g s. subst (ShowsContents p) (sym (back_to x g)) s) (λ p k u s. s)
 
 -- ---- equal keys
+
+pub new_of_all : (file : List ℕ) (key : KeyPlaces) (seen : List ComponentPlaces) → list_all (λ p. not (same_key file p.key key)) seen ≡ is_new seen file key
+new_of_all file key [] = refl
+new_of_all file key (p ∷ ps) = ap (λ (b : Bool). not (same_key file p.key key) && b) (new_of_all file key ps)
 
 and_decides : {P Q : Type 0} (a b : Bool) → Decides a P → Decides b Q → Decides (a && b) (P × Q)
 and_decides true b d e = (λ h. (d.0 refl, e.0 h), λ h. e.1 h.1)

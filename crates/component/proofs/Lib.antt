@@ -1,4 +1,3 @@
-pub mod Comparing
 pub mod Makings
 pub mod KeyLaws
 pub mod ComponentLaws

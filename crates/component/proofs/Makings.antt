@@ -1,10 +1,13 @@
 -- Keys and details made from what stands in a file are the ones that the places mean.
-use Rattle.std.proofs.Common.{◌≡◌, ℕ, ◌-◌, ◌<◌, ◌≤◌, true, false, List, [], ◌∷◌, length, get_or, take, drop, replicate, Some, None, Ok, Err, Option, Result, sym, refl, ap, ◌∙◌, inl, inr, arith}
+use Rattle.std.proofs.Common.{◌≡◌, ℕ, ◌<◌, true, false, List, [], length, replicate, Some, None, Ok, Err, Option, Result, sym, refl, ap, ◌∙◌, inl, inr, arith}
+use Rattle.std.specs.Option.{option_map, unwrap_or}
 use Rattle.std.proofs.lemmas.Bool.{cases_lt, cases_eq, lt-ltb}
-use Rattle.std.proofs.lemmas.List.{length-take-le}
 use Rattle.std.proofs.lemmas.Bool.Decides.{nat_tests}
+use Rattle.der.specs.declared.cursor.Cursor.{Cursor}
 use Rattle.der.specs.declared.refusal.Refusal.{Refusal}
+use Rattle.der.specs.Refusals.{then}
 use Rattle.der.specs.Elements.{tagged_at}
+use Rattle.der.specs.Cursors.{Enters, Stays}
 use Rattle.parts.specs.declared.bounded.Bounded.{Bounded}
 use Rattle.parts.specs.declared.key.Key.{Key}
 use Rattle.parts.specs.declared.key.Registry.{Registry}
@@ -15,36 +18,25 @@ use Rattle.parts.proofs.Same.{same_content}
 use Rattle.parts.proofs.Lawful.{key_only}
 use Rattle.parts.proofs.Built.{bounded, bounded_or, bounded_or_lem, none, text, four_or, registry_or, key_from, good_fields, fields_made}
 use Rattle.reader.specs.declared.kind.Kind.{Kind}
-use Rattle.reader.specs.declared.kind.Kind.TheVariants.{Platform, Delta}
-use Rattle.reader.specs.Readers.{read, entries_at}
-use Rattle.reader.proofs.Exact.{then_made}
+use Rattle.reader.specs.declared.span.Span.{Span}
+use Rattle.reader.specs.Readers.{Reads, followed, read, entries_at}
 use Rattle.component.specs.declared.places.ComponentPlaces.{ComponentPlaces}
+use Rattle.component.specs.declared.places.Components.{Components}
 use Rattle.component.specs.Syntax.{most}
 use Rattle.component.specs.Readings.{component_at, components_at, counted}
 
 -- ---- class values
 
-four_list : (xs : List ℕ) → length xs ≡ 4 → (get_or xs 0 0 ∷ get_or xs 1 0 ∷ get_or xs 2 0 ∷ get_or xs 3 0 ∷ []) ≡ xs
-four_list [] e = let no : ⊥ = omega arith in absurd no
-four_list (a ∷ []) e = let no : ⊥ = omega arith in absurd no
-four_list (a ∷ b ∷ []) e = let no : ⊥ = omega arith in absurd no
-four_list (a ∷ b ∷ c ∷ []) e = let no : ⊥ = omega arith in absurd no
-four_list (a ∷ b ∷ c ∷ d ∷ []) e = refl
-four_list (a ∷ b ∷ c ∷ d ∷ x ∷ xs) e = let no : ⊥ = omega arith in absurd no
-
 pub four_same : (xs : List ℕ) → length xs ≡ 4 → four_or xs ≡ xs
 four_same xs e = elim (cases_eq (length xs) 4) as (λ d. elim d [ inl h ↦ xs | inr h ↦ replicate 4 0 ] ≡ xs) [ inl h ↦ refl | inr h ↦ absurd (h e) ]
 
-pub four_of : (xs : List ℕ) → length xs ≡ 4 → (get_or xs 0 0 ∷ get_or xs 1 0 ∷ get_or xs 2 0 ∷ get_or xs 3 0 ∷ []) ≡ four_or xs
-four_of xs e = four_list xs e ∙ sym (four_same xs e)
-
 -- ---- keys
 
-pub number_back : (r : Registry) → number_of (registry_or (registry_of (number_of r))) ≡ number_of r
-number_back Tcg = refl
-number_back Dmtf = refl
-number_back Pcie = refl
-number_back Storage = refl
+pub registry_back : (r : Registry) → registry_or (registry_of (number_of r)) ≡ r
+registry_back Tcg = refl
+registry_back Dmtf = refl
+registry_back Pcie = refl
+registry_back Storage = refl
 
 -- a key is made of lent fields, each mended where it is none of a key
 module _ (g f : Fields) (e : g ≡ f) (r : f.registry ≡ number_of (registry_or (registry_of f.registry))) (c m o s : List ℕ) (ec : c ≡ four_or g.class) (em : m ≡ content (text g.maker)) (eo : o ≡ content (text g.model)) (es : s ≡ content (text g.serial)) where
@@ -90,20 +82,29 @@ revision_none xs e = elim (cases_lt (length xs) 0) as (λ d. none ≡ elim d [ i
   ]
 ]
 
+-- what was made of some bytes, or none where they are too many
+pub revision_made : (xs : List ℕ) (o : Option (Bounded 0 64)) → option_map content o ≡ bounded_of 0 64 xs → unwrap_or o none ≡ bounded_or none xs
+revision_made xs None e = revision_none xs e
+revision_made xs (Some r) e = revision_some xs r e
+
 -- ---- component lists
 
--- the space for the components of a kind, at the front of the whole space
-pub front_length : {A : Type 0} (kind : Kind) (xs : List A) (n : ℕ) → length xs ≡ 128 → n ≡ most kind → length (take (n - 0) (drop 0 xs)) ≡ most kind
-front_length kind xs n e h = let few : most kind ≤ 128 = elim kind as (λ k. most k ≤ 128) [ Platform ↦ omega arith | Delta ↦ omega arith ] in let s : n - 0 ≡ n = omega arith in length-take-le (n - 0) xs (omega arith) ∙ (s ∙ h)
+counted_then : (list : Span) (entries : Result (List ComponentPlaces) Refusal) →
+    followed (then {Y = Components} entries (λ xs. Ok (counted (list, xs)))) list.to ≡ then {Y = Components × ℕ} (then {Y = (Span × List ComponentPlaces) × ℕ} entries (λ xs. Ok ((list, xs), list.to))) (λ p. Ok (counted p.0, p.1))
+counted_then list (Ok xs) = refl
+counted_then list (Err e) = refl
 
--- a list that was read into a space, of which so many places were filled
-pub components_made : (kind : Kind) (file : List ℕ) (at end from to count : ℕ) (space : List ComponentPlaces) (size : ℕ) →
-    Ok (from, to) ≡ tagged_at file at end 0xA0 → from < to → count ≤ length space → size ≡ most kind → Ok (take count space) ≡ entries_at (component_at kind) at size [] file from to →
-    Ok (record { list = record { from = from; to = to }; count = count }, to) ≡ read counted (components_at kind) file at end
+-- a list whose entries were read, or the refusal of one of them
+pub components_made : (kind : Kind) (old new content : Cursor) (size : ℕ) (entries : Result (List ComponentPlaces) Refusal) (result : Result Components Refusal) →
+    Ok (content.at, content.end) ≡ tagged_at old.file.now old.at old.end 0xA0 → Enters old new content → Stays old new → content.at < content.end →
+    size ≡ most kind → entries ≡ entries_at (component_at kind) old.at size [] content.file.now content.at content.end →
+    result ≡ then entries (λ xs. Ok (counted (record { from = content.at; to = content.end }, xs))) →
+    Reads (read counted (components_at kind)) old new result
 unfolding components_at
-components_made kind file at end from to count space size e h n s r =
-    let n' : length (take count space) ≡ count = length-take-le count space n in
-    let r' : entries_at (component_at kind) at (most kind) [] file from to ≡ Ok (take count space) = ap (λ (m : ℕ). entries_at (component_at kind) at m [] file from to) (sym s) ∙ sym r in
-    sym (then_made (components_at kind file at end) _ ((record { from = from; to = to }, take count space), to) _
-    (then_made (tagged_at file at end 0xA0) _ (from, to) _ (sym e) (rw (lt-ltb from to h) (then_made (entries_at (component_at kind) at (most kind) [] file from to) _ (take count space) _ r' refl)))
-    (rw n' refl))
+components_made kind old new content size entries result t enters stays h n e r = record {
+  is =
+      let e' : entries_at (component_at kind) old.at (most kind) [] old.file.now content.at content.end ≡ entries = rw (← n, ← enters.file) (sym e) in
+      rw (r, enters.behind, ← t, lt-ltb content.at content.end h, e') (counted_then (record { from = content.at; to = content.end }) entries);
+  file = stays.file;
+  end = stays.end;
+}

@@ -1,5 +1,5 @@
 -- Components that were read as a list can be read again one after the other, with no search for a key before.
-use Rattle.std.proofs.Common.{◌≡◌, ℕ, zero, suc, ◌<◌, ◌≤◌, ltb, List, [], ◌∷◌, ◌++◌, Ok, Result, sym, refl, ap, ◌∙◌, subst, inl, inr, arith}
+use Rattle.std.proofs.Common.{◌≡◌, ℕ, zero, suc, ◌-◌, ◌<◌, ◌≤◌, ltb, List, [], ◌∷◌, ◌++◌, Ok, Result, sym, refl, ap, ◌∙◌, subst, inl, inr, arith}
 use Rattle.std.proofs.lemmas.Bool.{cases_lt, lt-ltb, le-ltb}
 use Rattle.std.proofs.lemmas.List.{append_assoc, append-nil}
 use Rattle.der.specs.declared.refusal.Refusal.{Refusal}
@@ -22,7 +22,6 @@ through q r k y f e = then_into q k y e (λ x ex e1. then_made r k x (Ok y) (f x
 
 -- a component that is new behind some others is read in the same way behind none
 pub behind_none : (kind : Kind) (seen : List ComponentPlaces) (file : List ℕ) (at end : ℕ) (p : ComponentPlaces × ℕ) → component_at kind seen file at end ≡ Ok p → component_at kind [] file at end ≡ Ok p
-unfolding component_at
 behind_none kind seen file at end p e =
     let key : (at' : ℕ) → List ComponentPlaces → Reader KeyPlaces = λ at' s. judged (is_new s) reason.Repeated (λ _ _. at') key_at in
     let one : List ComponentPlaces → Reader _ = λ s. within 0x30 (λ at'. both (key at' s) fields_at) in
@@ -38,6 +37,11 @@ behind_none kind seen file at end p e =
 
 turn : (kind : Kind) (left : ℕ) (file : List ℕ) (at end : ℕ) (p : ComponentPlaces × ℕ) → at < end → component_at kind [] file at end ≡ Ok p → components_from kind (suc left) file at end ≡ p.0 ∷ components_from kind left file p.1 end
 turn kind left file at end p h e = rw (lt-ltb at end h, e) refl
+
+-- the same of what is left of a list, where something is
+pub step : (kind : Kind) (left : ℕ) (file : List ℕ) (at end : ℕ) (p : ComponentPlaces × ℕ) → (left ≡ 0 → ⊥) → at < end → component_at kind [] file at end ≡ Ok p → components_from kind left file at end ≡ p.0 ∷ components_from kind (left - 1) file p.1 end
+step kind zero file at end p some h e = absurd (some refl)
+step kind (suc left) file at end p some h e = let n : suc left - 1 ≡ left = omega arith in rw n (turn kind left file at end p h e)
 
 over : (kind : Kind) (left : ℕ) (file : List ℕ) (at end : ℕ) → end ≤ at → components_from kind left file at end ≡ []
 over kind zero file at end h = refl
@@ -67,7 +71,7 @@ entries_from kind list left ps file from to e = walked kind list left [] ps file
 
 -- the components of a configuration, read one after the other from the list's content
 pub configuration_from : (kind : Kind) (file : List ℕ) (at end : ℕ) (p : Span × List ComponentPlaces) (next : ℕ) → configuration_at kind file at end ≡ Ok (p, next) → components_from kind (most kind) file p.0.from p.0.to ≡ p.1
-unfolding configuration_at components_at
+unfolding components_at
 configuration_from kind file at end p next e =
     then_into (tagged_at file at end 0x30) _ (p, next) e (λ a ea e1.
     then_into (read (λ q. q.0) (both (components_at kind) behind_at) file a.0 a.1) _ (p, next) e1 (λ b eb e2.

@@ -23,7 +23,7 @@ abbrev pub is_registry : List ℕ → Span → Bool
 is_registry file s = is_some (registry_named (cut file s))
 
 -- the class: registry and class value
-unfoldable pub class_at : Reader (Span × Span)
+abbrev pub class_at : Reader (Span × Span)
 class_at = inside 0x30 (both (judged is_registry reason.BadContent (λ at s. at) (leaf_at leaf.Identifier)) (leaf_at leaf.Class))
 
 -- where the fields of a key stand
@@ -31,7 +31,7 @@ abbrev pub key_places : (Span × Span) × (Span × (Span × Span)) → KeyPlaces
 key_places p = record { registry = p.0.0; class = p.0.1; maker = p.1.0; model = p.1.1.0; serial = p.1.1.1 }
 
 -- the key: class, maker, model, serial text
-unfoldable pub key_at : Reader KeyPlaces
+abbrev pub key_at : Reader KeyPlaces
 key_at = read key_places (both class_at (both (leaf_at leaf.Text) (both (leaf_at leaf.Text) (leaf_at leaf.SerialText))))
 
 -- two keys are equal; what tells most of them apart comes first
@@ -62,7 +62,7 @@ abbrev pub last_status : Option Span × (Option Span × (Option Span × Option S
 last_status p = p.1.1.1
 
 -- all fields that may be missing
-unfoldable pub fields_at : Reader (Option Span × (Option Span × (Option Span × (Option Span × (Option Span × (Option Span × Option Span))))))
+abbrev pub fields_at : Reader (Option Span × (Option Span × (Option Span × (Option Span × (Option Span × (Option Span × Option Span))))))
 fields_at =
     both (perhaps 0x81 (leaf_at leaf.Revision))
     (both (perhaps 0x82 (leaf_at (leaf.Opaque 0x82)))
@@ -81,7 +81,7 @@ is_asked Platform there = not there
 is_asked Delta there = there
 
 -- a component, behind those that were read
-unfoldable pub component_at : Kind → List ComponentPlaces → Reader ComponentPlaces
+abbrev pub component_at : Kind → List ComponentPlaces → Reader ComponentPlaces
 component_at kind seen =
     judged (λ file p. is_asked kind (is_some p.status)) reason.Status (λ at p. at)
     (read component_places (within 0x30 (λ at. both (judged (is_new seen) reason.Repeated (λ _ _. at) key_at) fields_at)))
@@ -97,13 +97,13 @@ components_at kind file at end =
     (refused reason.ListSize at))
 
 -- what stands behind the list is passed over
-unfoldable pub behind_at : Reader (Option Span × (Option Span × Option Span))
+abbrev pub behind_at : Reader (Option Span × (Option Span × Option Span))
 behind_at =
     both (perhaps 0xA1 (leaf_at (leaf.Opaque 0xA1)))
     (both (perhaps 0xA2 (leaf_at (leaf.Opaque 0xA2))) (perhaps 0xA3 (leaf_at (leaf.Opaque 0xA3))))
 
 -- the configuration: where the content of its list stands, and its components
-unfoldable pub configuration_at : Kind → Reader (Span × List ComponentPlaces)
+abbrev pub configuration_at : Kind → Reader (Span × List ComponentPlaces)
 configuration_at kind = inside 0x30 (read (λ p. p.0) (both (components_at kind) behind_at))
 
 -- what a host keeps of it: where the list stands, and how many components it has

@@ -12,7 +12,7 @@ registry_bytes Pcie = 0x67 ∷ 0x81 ∷ 0x05 ∷ 0x12 ∷ 0x03 ∷ 0x04 ∷ []
 registry_bytes Storage = 0x67 ∷ 0x81 ∷ 0x05 ∷ 0x12 ∷ 0x03 ∷ 0x05 ∷ []
 
 -- the registry with such an identifier, or none
-unfoldable pub registry_named : List ℕ → Option Registry
+abbrev pub registry_named : List ℕ → Option Registry
 registry_named name =
     cond (bytes_eq name (registry_bytes Tcg)) (Some Tcg)
     (cond (bytes_eq name (registry_bytes Dmtf)) (Some Dmtf)

@@ -1,47 +1,43 @@
 // Reading components.
 ghost use Rattle.std.specs.Prelude.{◌≡◌, is_some};
-ghost use Rattle.reader.specs.Readers.{Forward, read};
-ghost use Rattle.component.specs.Readings.{late_at, fields_at, last_status, component_places, is_asked, component_at, places_behind};
+ghost use Rattle.reader.specs.Readers.{Reads, Advances, read};
+ghost use Rattle.component.specs.Readings.{late_at, fields_at, last_status, is_asked, component_at, places_behind};
 
-use crate::key::{is_new, key_at};
+use crate::key::{is_new, read_key};
 use crate::places::{ComponentPlaces, KeyPlaces};
-use der::element::tagged_at;
+use der::cursor::Cursor;
 use der::refusal::{Reason, Refusal};
+use der::tag::SEQUENCE;
 use reader::entries::EntryReader;
 use reader::kind::Kind;
-use reader::leaf::{Leaf, end_at, optional_at};
+use reader::leaf::Leaf;
 use reader::span::Span;
 
 // The optional fields from the addresses on: where the status stands, which is the last.
-fn status_at(file: &[u8], at: usize, end: usize) -> Result<(Option<Span>, usize), Refusal>
-    ensures { result ≡ read last_status late_at file.now at end }
+#[tactic(auto, unfolding(crate::specs::Readings::late_at))]
+fn read_status(cursor: &mut Cursor<'_>) -> Result<Option<Span>, Refusal>
+    ensures { Reads (read last_status late_at) cursor.old cursor.new result }
 {
-    let (_, at) = optional_at(file, at, end, Leaf::Opaque(0xa4))?;
-    let (_, at) = optional_at(file, at, end, Leaf::Opaque(0xa5))?;
-    let (_, at) = optional_at(file, at, end, Leaf::Opaque(0xa6))?;
-    optional_at(file, at, end, Leaf::Status)
+    Leaf::Opaque(0xa4).read_optional(cursor)?;
+    Leaf::Opaque(0xa5).read_optional(cursor)?;
+    Leaf::Opaque(0xa6).read_optional(cursor)?;
+    Leaf::Status.read_optional(cursor)
 }
 
 // The optional fields of a component whose key is read.
-fn fields_at(
-    file: &[u8],
-    at: usize,
-    end: usize,
-    key: KeyPlaces,
-) -> Result<(ComponentPlaces, usize), Refusal>
-    ensures { result ≡ read (places_behind key) fields_at file.now at end }
+fn read_fields(cursor: &mut Cursor<'_>, key: KeyPlaces) -> Result<ComponentPlaces, Refusal>
+    ensures { Reads (read (places_behind key) fields_at) cursor.old cursor.new result }
 {
-    let (revision, at) = optional_at(file, at, end, Leaf::Revision)?;
-    let (_, at) = optional_at(file, at, end, Leaf::Opaque(0x82))?;
-    let (replaceable, at) = optional_at(file, at, end, Leaf::Replaceable)?;
-    let (status, at) = status_at(file, at, end)?;
-    let component = ComponentPlaces {
+    let revision = Leaf::Revision.read_optional(cursor)?;
+    Leaf::Opaque(0x82).read_optional(cursor)?;
+    let replaceable = Leaf::Replaceable.read_optional(cursor)?;
+    let status = read_status(cursor)?;
+    Ok(ComponentPlaces {
         key,
         revision,
         replaceable,
         status,
-    };
-    Ok((component, at))
+    })
 }
 
 // Whether a component has a status where its kind asks for one, and none where not.
@@ -54,31 +50,30 @@ fn is_asked(kind: Kind, status: Option<Span>) -> bool
     }
 }
 
-// The component at a place, behind those that were read.
-pub fn component_at(
-    file: &[u8],
-    at: usize,
-    end: usize,
+// The component that begins here, behind those that were read. The cursor then stands behind it.
+pub fn read_component(
+    cursor: &mut Cursor<'_>,
     kind: Kind,
     seen: &[ComponentPlaces],
-) -> Result<(ComponentPlaces, usize), Refusal>
-    ensures is { result ≡ component_at kind seen.now file.now at end }
-    ensures forward { Forward at result }
+) -> Result<ComponentPlaces, Refusal>
+    ensures is { Reads (component_at kind seen.now) cursor.old cursor.new result }
+    ensures forward { Advances cursor.old cursor.new result }
 {
-    let (from, to) = tagged_at(file, at, end, 0x30)?;
-    let (key, behind) = key_at(file, from, to)?;
-    if !is_new(file, seen, &key) {
+    let at = cursor.at;
+    let mut content = cursor.enter(SEQUENCE)?;
+    let key = read_key(&mut content)?;
+    if !is_new(content.file, seen, &key) {
         return Err(Reason::Repeated.at(at));
     }
-    let (component, next) = fields_at(file, behind, to, key)?;
-    end_at(next, to)?;
+    let component = read_fields(&mut content, key)?;
+    content.close()?;
     if !is_asked(kind, component.status) {
         return Err(Reason::Status.at(at));
     }
-    Ok((component, to))
+    Ok(component)
 }
 
-// Reads the components of a certificate of a kind.
+// Reads the components of a certificate of a kind. Apart from the other reader of a kind, since what they read differs.
 #[derive(Clone, Copy)]
 pub struct ComponentReader {
     pub kind: Kind,
@@ -92,10 +87,8 @@ impl EntryReader for ComponentReader {
     fn read(
         &self,
         seen: &[ComponentPlaces],
-        file: &[u8],
-        at: usize,
-        end: usize,
-    ) -> Result<(ComponentPlaces, usize), Refusal> {
-        component_at(file, at, end, self.kind, seen)
+        cursor: &mut Cursor<'_>,
+    ) -> Result<ComponentPlaces, Refusal> {
+        read_component(cursor, self.kind, seen)
     }
 }

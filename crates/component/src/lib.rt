@@ -4,6 +4,7 @@
 pub mod component;
 pub mod configuration;
 pub mod key;
+pub mod list;
 pub mod meaning;
 pub mod places;
 pub mod registry;

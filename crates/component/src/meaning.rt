@@ -15,107 +15,31 @@ use model::part::Status;
 use parts::bounded::Revision;
 use parts::details::Details;
 use parts::key::{Key, LentKey, Registry};
-use reader::span::Span;
 
 // A text of a key. Bytes that are none count as one byte 0, so every span has an answer.
 fn text_of(given: &[u8]) -> &[u8]
     ensures { result.now ≡ held (text given.now) }
 {
-    if given.is_empty() || given.len() > 64 {
-        return &[0];
+    match given.len() {
+        1..=64 => given,
+        _ => &[0],
     }
-    given
 }
 
 // A class value. Bytes that are none count as zeros.
 fn class_of(given: &[u8]) -> [u8; 4]
     ensures { result ≡ four_or given.now }
 {
-    if given.len() != 4 {
-        return [0; 4];
-    }
-    [given[0], given[1], given[2], given[3]]
-}
-
-// The fields of a key, lent.
-pub fn lent_key<'a>(file: &'a [u8], places: &KeyPlaces) -> LentKey<'a>
-    ensures { lent_fields result ≡ fields_in file.now places.now }
-{
-    let registry = match registry_named(places.registry.of(file)) {
-        Some(registry) => registry,
-        None => Registry::Tcg,
-    };
-    LentKey {
-        registry: registry.number(),
-        class: places.class.of(file),
-        maker: places.maker.of(file),
-        model: places.model.of(file),
-        serial: places.serial.of(file),
-    }
-}
-
-// The key.
-pub fn key_of(file: &[u8], places: &KeyPlaces) -> Key
-    ensures { result ≡ key_in file.now places.now }
-{
-    let lent = lent_key(file, places);
-    let class = class_of(lent.class);
-    let maker = text_of(lent.maker);
-    let model = text_of(lent.model);
-    let serial = text_of(lent.serial);
-    match Key::new(lent.registry, class, maker, model, serial) {
-        Ok(key) => key,
-        Err(_) => unreachable(),
-    }
+    <[u8; 4]>::try_from(given).unwrap_or([0; 4])
 }
 
 fn no_revision() -> Revision
     ensures { result ≡ none }
 {
-    match Revision::new(&[]) {
-        Some(revision) => revision,
-        None => unreachable(),
-    }
-}
-
-// A revision. Bytes that are too many count as none.
-fn revision_by(given: &[u8]) -> Revision
-    ensures { result ≡ bounded_or none given.now }
-{
-    match Revision::new(given) {
-        Some(revision) => revision,
-        None => no_revision(),
-    }
-}
-
-// The revision, which is empty where no field stands.
-fn revision_of(file: &[u8], field: Option<Span>) -> Revision
-    ensures { result ≡ bounded_or none (or_empty (option_map (cut file.now) field)) }
-{
-    match field {
-        Some(span) => revision_by(span.of(file)),
-        None => revision_by(&[]),
-    }
-}
-
-// Whether the part can be replaced, where that is known.
-fn replaceable_of(file: &[u8], field: Option<Span>) -> Option<bool>
-    ensures { result ≡ meant boolean_of (option_map (cut file.now) field) }
-{
-    match field {
-        Some(span) => boolean_of(span.of(file)),
-        None => None,
-    }
-}
-
-// The details.
-pub fn details_of(file: &[u8], places: &ComponentPlaces) -> Details
-    ensures { result ≡ details_in file.now places.now }
-{
-    Details {
-        revision: revision_of(file, places.revision),
-        replaceable: replaceable_of(file, places.replaceable),
-    }
+    let Some(revision) = Revision::new(&[]) else {
+        unreachable()
+    };
+    revision
 }
 
 // The status that a content stands for.
@@ -130,12 +54,91 @@ fn status_named(content: &[u8]) -> Option<Status>
     }
 }
 
-// The status, where one stands.
-pub fn status_of(file: &[u8], places: &ComponentPlaces) -> Option<Status>
-    ensures { result ≡ status_in file.now places.now }
-{
-    match places.status {
-        Some(span) => status_named(span.of(file)),
-        None => None,
+// A key where it stands: its file, and where its fields are in it.
+#[derive(Clone, Copy)]
+pub struct PlacedKey<'a> {
+    pub file: &'a [u8],
+    pub places: KeyPlaces,
+}
+
+impl<'a> PlacedKey<'a> {
+    // Its fields, lent.
+    pub fn lent(&self) -> LentKey<'a>
+        ensures { lent_fields result ≡ fields_in self.now.file.now self.now.places }
+    {
+        let places = self.places;
+        let registry = registry_named(places.registry.of(self.file)).unwrap_or(Registry::Tcg);
+        LentKey {
+            registry: u8::from(registry),
+            class: places.class.of(self.file),
+            maker: places.maker.of(self.file),
+            model: places.model.of(self.file),
+            serial: places.serial.of(self.file),
+        }
+    }
+
+    // As a value.
+    pub fn key(&self) -> Key
+        ensures { result ≡ key_in self.now.file.now self.now.places }
+    {
+        let lent = self.lent();
+        let class = class_of(lent.class);
+        let maker = text_of(lent.maker);
+        let model = text_of(lent.model);
+        let serial = text_of(lent.serial);
+        let Ok(key) = Key::new(lent.registry, class, maker, model, serial) else {
+            unreachable()
+        };
+        key
+    }
+}
+
+// A component where it stands: its file, and where its fields are in it. Apart from a key, since both have a method `key`.
+#[derive(Clone, Copy)]
+pub struct PlacedComponent<'a> {
+    pub file: &'a [u8],
+    pub places: ComponentPlaces,
+}
+
+impl PlacedComponent<'_> {
+    // Its key.
+    pub fn key(&self) -> Key
+        ensures { result ≡ key_in self.now.file.now self.now.places.key }
+    {
+        let key = PlacedKey {
+            file: self.file,
+            places: self.places.key,
+        };
+        key.key()
+    }
+
+    // Its revision, which is empty where no field stands, and where the bytes are too many.
+    fn revision(&self) -> Revision
+        ensures { result ≡ bounded_or none (or_empty (option_map (cut self.now.file.now) self.now.places.revision)) }
+    {
+        let content: &[u8] = self.places.revision.map_or(&[], |span| span.of(self.file));
+        Revision::new(content).unwrap_or(no_revision())
+    }
+
+    // Its details.
+    pub fn details(&self) -> Details
+        ensures { result ≡ details_in self.now.file.now self.now.places }
+    {
+        Details {
+            revision: self.revision(),
+            replaceable: self
+                .places
+                .replaceable
+                .and_then(|span| boolean_of(span.of(self.file))),
+        }
+    }
+
+    // Its status, where one stands.
+    pub fn status(&self) -> Option<Status>
+        ensures { result ≡ status_in self.now.file.now self.now.places }
+    {
+        self.places
+            .status
+            .and_then(|span| status_named(span.of(self.file)))
     }
 }

@@ -1,8 +1,8 @@
 // Where the fields of components stand in a file.
 use reader::span::Span;
 
-// The fields of a key.
-#[derive(Clone, Copy)]
+// The fields of a key, as places. A struct of its own: one for keys in every form would say less of each.
+#[derive(Clone, Copy, Default)]
 pub struct KeyPlaces {
     pub registry: Span,
     pub class: Span,
@@ -12,7 +12,7 @@ pub struct KeyPlaces {
 }
 
 // A component, without the fields that are passed over.
-#[derive(Clone, Copy)]
+#[derive(Clone, Copy, Default)]
 pub struct ComponentPlaces {
     pub key: KeyPlaces,
     pub revision: Option<Span>,

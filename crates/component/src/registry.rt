@@ -1,40 +1,34 @@
 // The identifiers of the registries.
 ghost use Rattle.std.specs.Prelude.{◌≡◌};
-ghost use Rattle.std.specs.Str.{bytes_eq};
-ghost use Rattle.component.specs.Registries.{registry_named};
+ghost use Rattle.component.specs.Registries.{registry_bytes, registry_named};
 
 use parts::key::Registry;
 
-const TCG: [u8; 6] = [0x67, 0x81, 0x05, 0x12, 0x03, 0x01];
+const REGISTRIES: [Registry; 4] = [
+    Registry::Tcg,
+    Registry::Dmtf,
+    Registry::Pcie,
+    Registry::Storage,
+];
 
-const DMTF: [u8; 6] = [0x67, 0x81, 0x05, 0x12, 0x03, 0x03];
-
-const PCIE: [u8; 6] = [0x67, 0x81, 0x05, 0x12, 0x03, 0x04];
-
-const STORAGE: [u8; 6] = [0x67, 0x81, 0x05, 0x12, 0x03, 0x05];
-
-// Whether two byte strings are equal.
-pub(crate) fn same(a: &[u8], b: &[u8]) -> bool
-    ensures { result ≡ bytes_eq a.now b.now }
+// The content of a registry's identifier.
+fn identifier_of(registry: Registry) -> [u8; 6]
+    ensures { result ≡ registry_bytes registry }
 {
-    a == b
+    match registry {
+        Registry::Tcg => [0x67, 0x81, 0x05, 0x12, 0x03, 0x01],
+        Registry::Dmtf => [0x67, 0x81, 0x05, 0x12, 0x03, 0x03],
+        Registry::Pcie => [0x67, 0x81, 0x05, 0x12, 0x03, 0x04],
+        Registry::Storage => [0x67, 0x81, 0x05, 0x12, 0x03, 0x05],
+    }
 }
 
 // The registry with an identifier, or none.
 pub fn registry_named(name: &[u8]) -> Option<Registry>
     ensures { result ≡ registry_named name.now }
 {
-    if same(name, &TCG) {
-        return Some(Registry::Tcg);
-    }
-    if same(name, &DMTF) {
-        return Some(Registry::Dmtf);
-    }
-    if same(name, &PCIE) {
-        return Some(Registry::Pcie);
-    }
-    if same(name, &STORAGE) {
-        return Some(Registry::Storage);
-    }
-    None
+    REGISTRIES
+        .iter()
+        .find(|registry| name == identifier_of(**registry).as_slice())
+        .copied()
 }

@@ -1,8 +1,9 @@
 // Small configurations, worked out by hand.
-use crate::configuration::configuration_at;
-use crate::places::Components;
-use der::refusal::Refusal;
+use crate::configuration::read_configuration;
+use crate::list::listed;
+use der::cursor::Cursor;
 use reader::kind::Kind;
+use reader::span::Span;
 
 // One component with no optional field.
 const PLAIN: [u8; 31] = [
@@ -18,28 +19,19 @@ const CHANGED: [u8; 37] = [
 ];
 
 // Number and place of the refusal; of a list that was read, 0 and the number of components.
-fn told(answer: Result<(Components, usize), Refusal>) -> (u8, usize) {
-    match answer {
-        Ok((components, _)) => (0, components.count),
-        Err(refusal) => (refusal.reason.number(), refusal.place),
+fn told(file: &[u8], kind: Kind) -> (u8, usize) {
+    match read_configuration(&mut Cursor::new(file), kind) {
+        Ok(components) => (0, components.count),
+        Err(refusal) => (u8::from(refusal.reason), refusal.place),
     }
 }
 
 #[test]
 fn kinds_ask_for_status(rt: HostRuntime) {
-    assert_eq!(rt;
-        told(configuration_at(&PLAIN, 0, 31, Kind::Platform)),
-        (0, 1)
-    );
-    assert_eq!(rt; told(configuration_at(&PLAIN, 0, 31, Kind::Delta)), (13, 4));
-    assert_eq!(rt;
-        told(configuration_at(&CHANGED, 0, 37, Kind::Delta)),
-        (0, 1)
-    );
-    assert_eq!(rt;
-        told(configuration_at(&CHANGED, 0, 37, Kind::Platform)),
-        (13, 4)
-    );
+    assert_eq!(rt; told(&PLAIN, Kind::Platform), (0, 1));
+    assert_eq!(rt; told(&PLAIN, Kind::Delta), (13, 4));
+    assert_eq!(rt; told(&CHANGED, Kind::Delta), (0, 1));
+    assert_eq!(rt; told(&CHANGED, Kind::Platform), (13, 4));
 }
 
 #[test]
@@ -47,21 +39,21 @@ fn first_fault_counts(rt: HostRuntime) {
     let mut file = PLAIN;
     // The registry of the IETF is none of the four.
     file[15] = 2;
-    assert_eq!(rt;
-        told(configuration_at(&file, 0, 31, Kind::Platform)),
-        (6, 8)
-    );
+    assert_eq!(rt; told(&file, Kind::Platform), (6, 8));
     file[15] = 1;
     // Another tag stands where the serial text should.
     file[28] = 0x81;
-    assert_eq!(rt;
-        told(configuration_at(&file, 0, 31, Kind::Platform)),
-        (4, 28)
-    );
+    assert_eq!(rt; told(&file, Kind::Platform), (4, 28));
     file[28] = 0x80;
     file[2] = 0xa1;
-    assert_eq!(rt;
-        told(configuration_at(&file, 0, 31, Kind::Platform)),
-        (4, 2)
-    );
+    assert_eq!(rt; told(&file, Kind::Platform), (4, 2));
+}
+
+#[test]
+fn lists_as_its_kind_reads(rt: HostRuntime) {
+    let list = Span { from: 4, to: 31 };
+    let mut components = listed(&PLAIN, list, Kind::Platform);
+    assert!(rt; components.next().is_some());
+    assert!(rt; components.next().is_none());
+    assert!(rt; listed(&PLAIN, list, Kind::Delta).next().is_none());
 }

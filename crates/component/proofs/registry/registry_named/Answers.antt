@@ -1,23 +1,13 @@
-use Rattle.std.proofs.Common.{rules}
-use Rattle.component.specs.Registries.{registry_named}
+use Rattle.std.proofs.Common.{[], ◌∷◌, ◌∙◌, rules, tests}
+use Rattle.std.specs.Str.{bytes_eq}
+use Rattle.std.proofs.lemmas.Iterator.{YieldsList-from_slice}
+use Rattle.std.proofs.lemmas.Iterator.Search.{find_from_yields_List}
+use Rattle.parts.specs.declared.key.Registry.{Registry}
+use Rattle.parts.specs.declared.key.Registry.TheVariants.{Tcg, Dmtf, Pcie, Storage}
+use Rattle.component.specs.Registries.{registry_bytes}
 use Rattle.component.proofs.registry.registry_named.Goals as goal
 
-pub returns-then-same : goal.returns-then-same
-unfolding registry_named
-returns-then-same c = search rules
-
-pub returns-then-same-2 : goal.returns-then-same-2
-unfolding registry_named
-returns-then-same-2 c = search rules
-
-pub returns-then-same-3 : goal.returns-then-same-3
-unfolding registry_named
-returns-then-same-3 c = search rules
-
-pub returns-then-same-4 : goal.returns-then-same-4
-unfolding registry_named
-returns-then-same-4 c = search rules
-
 pub returns : goal.returns
-unfolding registry_named
-returns c = search rules
+returns c =
+    let found = find_from_yields_List (λ (r : Registry). bytes_eq c.args.name.now (registry_bytes r)) _ _ c.find.result c.find.ensures.ran (YieldsList-from_slice (Tcg ∷ Dmtf ∷ Pcie ∷ Storage ∷ []) cc) (λ x b q k. search (rules, tests)) in
+    c.copied.ensures ∙ found
