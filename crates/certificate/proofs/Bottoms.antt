@@ -1,6 +1,9 @@
 -- The questions of the bottom, component by component.
-use Rattle.std.proofs.Common.{◌≡◌, ℕ, suc, ◌≤◌, List, [], ◌∷◌, ◌++◌, map, length, Some, None, Option, Ordering, Equal, sym, refl, ap, ◌∙◌, subst, inl, inr, arith}
+use Rattle.std.proofs.Common.{◌≡◌, ℕ, suc, ◌≤◌, cond, List, [], ◌∷◌, ◌++◌, map, length, Some, None, Option, Ordering, Less, Equal, Greater, sym, refl, ap, ◌∙◌, subst, inl, inr, arith}
 use Rattle.std.proofs.lemmas.List.{length-map}
+use Rattle.std.specs.List.{find}
+use Rattle.std.specs.Option.{option_map}
+use Rattle.std.specs.Ordering.{is_eq}
 use Rattle.model.specs.declared.part.Part.{Part}
 use Rattle.model.specs.Orders.{if_same}
 use Rattle.model.specs.Parts.{lookup, above}
@@ -11,7 +14,6 @@ use Rattle.parts.specs.declared.key.Key.{Key}
 use Rattle.parts.specs.declared.details.Details.{Details}
 use Rattle.parts.specs.Keys.{order}
 use Rattle.parts.proofs.Lawful.{order_lawful}
-use Rattle.component.specs.declared.places.ComponentPlaces.{ComponentPlaces}
 use Rattle.component.specs.Syntax.{Component, most}
 use Rattle.reader.specs.declared.kind.Kind.{Kind}
 use Rattle.reader.specs.Leaves.{Sized}
@@ -19,35 +21,34 @@ use Rattle.reader.specs.Syntax.{Each, Among, Absent, Apart}
 use Rattle.certificate.specs.declared.line.Line.{Line}
 use Rattle.certificate.specs.declared.places.Places.{Places}
 use Rattle.certificate.specs.Profile.{line_of, Reading}
-use Rattle.certificate.specs.Readings.{line_in, reading_at, Reads}
+use Rattle.certificate.specs.Readings.{reading_at, Reads}
 use Rattle.certificate.specs.Bottoms.{part_of, parts_of}
 
-module _ (file : List ℕ) (key : Key) where
-  -- the answer to find, of the components that are left
-  abbrev pub found_in : List ComponentPlaces → Option Details
-  found_in ps = lookup order key (parts_of (map (line_in file) ps))
+module _ (key : Key) where
+  -- one component in front, by how its key compares
+  found_step : (o : Ordering) (l : Line) (rest : Option Line) (d : Option Details) → option_map (λ (z : Line). z.details) rest ≡ d → option_map (λ (z : Line). z.details) (cond (is_eq o) (Some l) rest) ≡ if_same o (Some l.details) d
+  found_step Less l rest d e = e
+  found_step Equal l rest d e = refl
+  found_step Greater l rest d e = e
 
-  pub found_here : (p : ComponentPlaces) (ps : List ComponentPlaces) (d : Details) → order key (line_in file p).key ≡ Equal → d ≡ (line_in file p).details → Some d ≡ found_in (p ∷ ps)
-  found_here p ps d e s =
-      ap (λ (z : Details). Some z) s
-      ∙ sym (gathered_told order order_lawful key (part_of (line_in file p)) (map part_of (map (line_in file) ps)) ∙ ap (λ (o : Ordering). if_same o (Some (line_in file p).details) (found_in ps)) e)
+  -- the first component with the key is the part with the key
+  pub found_first : (ls : List Line) → option_map (λ (z : Line). z.details) (find (λ (z : Line). is_eq (order key z.key)) ls) ≡ lookup order key (parts_of ls)
+  found_first [] = refl
+  found_first (l ∷ ls) = found_step (order key l.key) l _ _ (found_first ls) ∙ sym (gathered_told order order_lawful key (part_of l) (map part_of ls))
 
-  pub found_past : (p : ComponentPlaces) (ps : List ComponentPlaces) → (order key (line_in file p).key ≡ Equal → ⊥) → found_in ps ≡ found_in (p ∷ ps)
-  found_past p ps n = sym (gathered_told order order_lawful key (part_of (line_in file p)) (map part_of (map (line_in file) ps)) ∙ if_same_other (order key (line_in file p).key) _ _ n)
-
-module _ (file : List ℕ) (k : Option Key) where
+module _ (k : Option Key) where
   -- the answer to next, of the components that are left and the best so far
-  abbrev pub nearest_in : Option (Part Key Details) → List ComponentPlaces → Option (Part Key Details)
-  nearest_in best ps = nearer order best (above order k (parts_of (map (line_in file) ps)))
+  abbrev pub nearest_in : Option (Part Key Details) → List Line → Option (Part Key Details)
+  nearest_in best ls = nearer order best (above order k (parts_of ls))
 
-  pub nearest_more : (best : Option (Part Key Details)) (p : ComponentPlaces) (ps : List ComponentPlaces) → nearest_in (nearer order best (over_only order k (part_of (line_in file p)))) ps ≡ nearest_in best (p ∷ ps)
-  nearest_more best p ps =
-      nearer_assoc order order_lawful best (over_only order k (part_of (line_in file p))) (above order k (parts_of (map (line_in file) ps)))
-      ∙ ap (nearer order best) (sym (gathered_above order order_lawful k (part_of (line_in file p)) (map part_of (map (line_in file) ps))))
+  pub nearest_more : (best : Option (Part Key Details)) (l : Line) (ls : List Line) → nearest_in (nearer order best (over_only order k (part_of l))) ls ≡ nearest_in best (l ∷ ls)
+  nearest_more best l ls =
+      nearer_assoc order order_lawful best (over_only order k (part_of l)) (above order k (parts_of ls))
+      ∙ ap (nearer order best) (sym (gathered_above order order_lawful k (part_of l) (map part_of ls)))
 
-pub nearest_done : (file : List ℕ) (k : Option Key) (best : Option (Part Key Details)) → nearest_in file k best [] ≡ best
-nearest_done file None best = nearer_none order order_lawful best
-nearest_done file (Some k) best = nearer_none order order_lawful best
+pub nearest_done : (k : Option Key) (best : Option (Part Key Details)) → nearest_in k best [] ≡ best
+nearest_done None best = nearer_none order order_lawful best
+nearest_done (Some k) best = nearer_none order order_lawful best
 
 -- ---- how many parts there are
 

@@ -11,7 +11,8 @@ use Rattle.der.proofs.Parts.{part_none, part_all}
 use Rattle.der.proofs.Laws.{encoded_unique}
 use Rattle.reader.specs.declared.kind.Kind.{Kind}
 use Rattle.reader.specs.declared.span.Span.{Span}
-use Rattle.reader.specs.Readers.{Reader, cut, ended, inside, both, read}
+use Rattle.der.specs.Elements.{ended}
+use Rattle.reader.specs.Readers.{Reader, cut, inside, both, read}
 use Rattle.reader.specs.Syntax.{Other, other_bytes, Among}
 use Rattle.reader.proofs.Cuts.{cut_within}
 use Rattle.reader.proofs.Exact.{then_into, then_made, unless_into, ended_into, ended_made, over, same_answer}
@@ -50,7 +51,6 @@ inside_inner : {X : Type 0} (tag : ℕ) (r : Reader X) (file : List ℕ) (at to 
 inside_inner tag r file at to = ap (λ (q : Result (ℕ × ℕ) Refusal). then q (λ p. then (r file p.0 p.1) (λ q. then (ended q.1 p.1) (λ _. Ok (q.0, p.1))))) (tagged_inner file at to tag)
 
 configuration_inner : (kind : Kind) (file : List ℕ) (at to : ℕ) → configuration_at kind file at to ≡ configuration_at kind file at (inner file to)
-unfolding configuration_at
 configuration_inner kind file at to = inside_inner 0x30 (read (λ p. p.0) (both (components_at kind) behind_at)) file at to
 
 cut_inner : (file : List ℕ) (s : Span) → cut file s ≡ part file s.from (inner file s.to)

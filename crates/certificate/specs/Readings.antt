@@ -1,5 +1,5 @@
 -- What stands at the places that a check answers, and what its answer says of the profile.
-use Rattle.std.specs.Prelude.{◌≡◌, ℕ, zero, suc, List, [], ◌∷◌, map, length, drop, Some, None, Ok, Err, Option, Result}
+use Rattle.std.specs.Prelude.{◌≡◌, ℕ, List, map, length, drop, Ok, Err, Option, Result, slice_get}
 use Rattle.der.specs.declared.refusal.Refusal.{Refusal}
 use Rattle.reader.specs.declared.kind.Kind.{Kind}
 use Rattle.reader.specs.Readers.{cut}
@@ -8,6 +8,7 @@ use Rattle.component.specs.Syntax.{most}
 use Rattle.component.specs.Readings.{components_from}
 use Rattle.component.specs.Meaning.{key_in, details_in, status_in}
 use Rattle.certificate.specs.declared.line.Line.{Line}
+use Rattle.certificate.specs.declared.lent.LentCertificate.{LentCertificate}
 use Rattle.certificate.specs.declared.places.Places.{Places}
 use Rattle.certificate.specs.Profile.{Certificate, Profile, Reading, reading_of}
 
@@ -31,11 +32,13 @@ reading_at kind file p = record {
   components = map (line_in file) (places_in kind file p);
 }
 
+-- what stands at the places of a certificate
+abbrev pub reading : LentCertificate → Reading
+reading c = reading_at c.kind c.file.now c.places
+
 -- the element of a list with a number from 0, or none
 abbrev pub nth_of : {X : Type 0} → ℕ → List X → Option X
-nth_of n [] = None
-nth_of zero (x ∷ xs) = Some x
-nth_of (suc n) (x ∷ xs) = nth_of n xs
+nth_of n xs = slice_get xs n
 
 -- the file is a certificate of the kind, its reading stands at the places, it has no other, and the components are
 -- counted

@@ -3,22 +3,19 @@ ghost use Rattle.std.specs.Prelude.{◌≡◌, ◌≤◌, map, length};
 ghost use Rattle.reader.specs.declared.kind.Kind.TheVariants.{Platform};
 ghost use Rattle.reader.specs.Leaves.{Sized};
 ghost use Rattle.std.specs.Option.{option_map};
-ghost use Rattle.model.specs.Parts.{most_parts, lookup, above as above_in};
-ghost use Rattle.model.specs.Gathered.{gathered, over_only, nearer};
+ghost use Rattle.model.specs.Parts.{most_parts};
+ghost use Rattle.model.specs.Gathered.{over_only, nearer};
 ghost use Rattle.model.proofs.Gathers.{gathered_rising};
 ghost use Rattle.parts.specs.Keys.{order};
-ghost use Rattle.parts.specs.Bounds.{content};
 ghost use Rattle.parts.proofs.Lawful.{order_lawful};
 ghost use Rattle.component.specs.Syntax.{most};
-ghost use Rattle.component.specs.Readings.{components_from};
-ghost use Rattle.certificate.specs.Readings.{reading_at, line_in, Reads};
+ghost use Rattle.certificate.specs.Readings.{reading, reading_at, Reads};
 ghost use Rattle.certificate.specs.Bottoms.{part_of, parts_of, HeadOf};
 
-use crate::lent::{LentCertificate, line_of};
+use crate::lent::LentCertificate;
+use crate::line::{Lines, lines_of};
 use crate::places::Places;
-use crate::platform::VouchedPlatform;
-use component::component::component_at;
-use component::configuration::most_of;
+use crate::read::VouchedPlatform;
 use model::part::Part;
 use parts::bounded::{Name, Serial};
 use parts::details::Details;
@@ -26,8 +23,6 @@ use parts::head::Head;
 use parts::inventory::{Certified, Inventory};
 use parts::key::Key;
 use reader::kind::Kind;
-use reader::span::Span;
-use std::cmp::Ordering;
 
 // The components of a platform certificate, with its own issuer and serial as the head.
 #[derive(Clone, Copy)]
@@ -39,39 +34,13 @@ pub struct Bottom<'a> {
     ghost small: { length (parts_of (reading_at Platform file.now places).components) ≤ most_parts },
 }
 
-// The details of the first component from a place on that has a key, or none.
-fn find_from(file: &[u8], list: Span, kind: Kind, key: &Key) -> Option<Details>
-    ensures { result ≡ lookup order key.now (parts_of (map (line_in file.now) (components_from kind (most kind) file.now list.from list.to))) }
-{
-    let mut at = list.from;
-    for turn in 0..most_of(kind) {
-        if at >= list.to {
-            return None;
-        }
-        match component_at(file, at, list.to, kind, &[]) {
-            Ok((component, next)) => {
-                let line = line_of(file, &component);
-                if let Ordering::Equal = key.compare(&line.key) {
-                    return Some(line.details);
-                }
-                at = next;
-            }
-            Err(_) => return None,
-        }
-    }
-    None
-}
-
 // A part, where its key is above the one given.
 fn over_only(above: Option<&Key>, part: Part<Key, Details>) -> Option<Part<Key, Details>>
     ensures { result ≡ over_only order (option_map (λ x. x.now) above.entry) part }
 {
-    let Some(key) = above else {
-        return Some(part);
-    };
-    match key.compare(&part.key) {
-        Ordering::Less => Some(part),
-        _ => None,
+    match above {
+        Some(key) if !key.compare(&part.key).is_lt() => None,
+        _ => Some(part),
     }
 }
 
@@ -82,49 +51,20 @@ fn nearer_of(
 ) -> Option<Part<Key, Details>>
     ensures { result ≡ nearer order first second }
 {
-    let Some(p) = first else {
+    let (Some(p), Some(q)) = (first, second) else {
+        return first.or(second);
+    };
+    if p.key.compare(&q.key).is_gt() {
         return second;
-    };
-    let Some(q) = second else {
-        return Some(p);
-    };
-    match p.key.compare(&q.key) {
-        Ordering::Greater => Some(q),
-        _ => Some(p),
     }
-}
-
-// The part with the smallest key above the one given, of the components from a place on, or none.
-fn next_from(file: &[u8], list: Span, kind: Kind, above: Option<&Key>) -> Option<Part<Key, Details>>
-    ensures { result ≡ above_in order (option_map (λ x. x.now) above.entry) (parts_of (map (line_in file.now) (components_from kind (most kind) file.now list.from list.to))) }
-{
-    let mut at = list.from;
-    let mut best = None;
-    for turn in 0..most_of(kind) {
-        if at >= list.to {
-            return best;
-        }
-        match component_at(file, at, list.to, kind, &[]) {
-            Ok((component, next)) => {
-                let line = line_of(file, &component);
-                let part = Part {
-                    key: line.key,
-                    details: line.details,
-                };
-                best = nearer_of(best, over_only(above, part));
-                at = next;
-            }
-            Err(_) => return best,
-        }
-    }
-    best
+    first
 }
 
 // The head that a certificate names: its own issuer and serial.
 fn head_of(certificate: &LentCertificate<'_>) -> Head
-    requires issuer { Sized 1 128 (reading_at certificate.now.kind certificate.now.file.now certificate.now.places).issuer }
-    requires serial { Sized 1 20 (reading_at certificate.now.kind certificate.now.file.now certificate.now.places).serial }
-    ensures { HeadOf (reading_at certificate.now.kind certificate.now.file.now certificate.now.places) result }
+    requires issuer { Sized 1 128 (reading certificate.now).issuer }
+    requires serial { Sized 1 20 (reading certificate.now).serial }
+    ensures { HeadOf (reading certificate.now) result }
 {
     let Some(issuer) = Name::new(certificate.issuer()) else {
         unreachable()
@@ -150,6 +90,13 @@ impl<'a> Bottom<'a> {
             head: head_of(&certificate),
         }
     }
+
+    // The components as those of a kind, in the order of the file.
+    fn lines(&self, kind: Kind) -> Lines<'a>
+        ensures { result ≡ (reading_at kind self.now.file.now self.now.places).components }
+    {
+        lines_of(self.file, self.places.components.list, kind)
+    }
 }
 
 impl Inventory for Bottom<'_> {
@@ -162,16 +109,21 @@ impl Inventory for Bottom<'_> {
     ghost few = { λ x h. x.small };
 
     fn find(&self, key: &Key) -> Option<Details> {
-        find_from(self.file, self.places.components.list, Kind::Platform, key)
+        let mut lines = self.lines(Kind::Platform);
+        let line = lines.find(|line| key.compare(&line.key).is_eq())?;
+        Some(line.details)
     }
 
     fn next(&self, above: Option<&Key>) -> Option<Part<Key, Details>> {
-        next_from(
-            self.file,
-            self.places.components.list,
-            Kind::Platform,
-            above,
-        )
+        let mut nearest = None;
+        for line in self.lines(Kind::Platform) {
+            let part = Part {
+                key: line.key,
+                details: line.details,
+            };
+            nearest = nearer_of(nearest, over_only(above, part));
+        }
+        nearest
     }
 
     fn count(&self) -> usize {

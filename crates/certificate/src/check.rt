@@ -1,40 +1,32 @@
 // The check of a certificate.
 ghost use Rattle.std.specs.Prelude.{◌≡◌};
-ghost use Rattle.reader.specs.declared.kind.Kind.TheVariants.{Platform, Delta};
 ghost use Rattle.certificate.specs.Checks.{envelope_of, components_of, checked};
 ghost use Rattle.certificate.specs.Profile.{OneKind};
 ghost use Rattle.certificate.specs.Readings.{Told};
 
+use crate::kind::OfKind;
 use crate::places::Places;
-use component::configuration::configuration_at;
+use component::configuration::read_configuration;
 use component::places::Components;
+use der::cursor::Cursor;
 use der::refusal::{Reason, Refusal};
-use envelope::envelope::{EnvelopePlaces, envelope_at};
+use envelope::envelope::{EnvelopePlaces, read_envelope};
 use reader::kind::Kind;
-use reader::leaf::end_at;
 
 // The most bytes of a certificate's file.
 const MOST_BYTES: usize = 32768;
 
-// Whether a file is a platform certificate, and where its parts stand.
-pub fn check_platform(file: &[u8]) -> Result<Places, Refusal>
-    ensures is { result ≡ checked Platform file.now }
-    ensures told { Told Platform file.now result }
+// Whether a file is a certificate of a kind, and where its parts stand.
+pub fn check<K: OfKind>(file: &[u8]) -> Result<Places, Refusal>
+    ensures is { result ≡ checked K.kind file.now }
+    ensures told { Told K.kind file.now result }
     ensures one { OneKind file.now }
 {
-    check(file, Kind::Platform)
+    check_kind(file, K::kind())
 }
 
-// Whether a file is a delta certificate, and where its parts stand.
-pub fn check_delta(file: &[u8]) -> Result<Places, Refusal>
-    ensures is { result ≡ checked Delta file.now }
-    ensures told { Told Delta file.now result }
-    ensures one { OneKind file.now }
-{
-    check(file, Kind::Delta)
-}
-
-fn check(file: &[u8], kind: Kind) -> Result<Places, Refusal>
+#[tactic(auto, unfolding(crate::specs::Checks::checked))]
+fn check_kind(file: &[u8], kind: Kind) -> Result<Places, Refusal>
     ensures { result ≡ checked kind file.now }
 {
     let envelope = check_envelope(file, kind)?;
@@ -52,12 +44,13 @@ fn check_envelope(file: &[u8], kind: Kind) -> Result<EnvelopePlaces, Refusal>
     if file.len() > MOST_BYTES {
         return Err(Reason::FileTooLong.at(0));
     }
-    let (envelope, next) = envelope_at(file, 0, file.len(), kind)?;
-    end_at(next, file.len())?;
+    let mut cursor = Cursor::new(file);
+    let envelope = read_envelope(&mut cursor, kind)?;
+    cursor.close()?;
     Ok(envelope)
 }
 
-// The components, which are read last.
+// The components, which are read last, in the file that the envelope was read of.
 fn check_components(
     file: &[u8],
     kind: Kind,
@@ -66,6 +59,10 @@ fn check_components(
     ensures { result ≡ components_of kind file.now envelope }
 {
     let place = envelope.fields.configuration;
-    let (components, _) = configuration_at(file, place.from, place.to, kind)?;
-    Ok(components)
+    let mut cursor = Cursor {
+        file,
+        at: place.from,
+        end: place.to,
+    };
+    read_configuration(&mut cursor, kind)
 }

@@ -3,8 +3,8 @@
 
 pub mod bottom;
 pub mod check;
-pub mod delta;
+pub mod kind;
 pub mod lent;
 pub mod line;
 pub mod places;
-pub mod platform;
+pub mod read;

@@ -1,15 +1,11 @@
-use Rattle.std.proofs.Common.{rules}
+use Rattle.std.proofs.Common.{ap, ◌∙◌, arith}
 use Rattle.certificate.specs.Checks.{checked}
+use Rattle.certificate.proofs.KindLaw.{one_kind}
+use Rattle.certificate.proofs.Whole.{told}
 use Rattle.certificate.proofs.check.check.Goals as goal
 
-pub returns-in_err-envelope : goal.returns-in_err-envelope
-unfolding checked
-returns-in_err-envelope c = search rules
+pub returns-clause-told : goal.returns-clause-told
+returns-clause-told g c = told c.args.file.now (λ i. omega (arith, c.type_inv.file i)) g.K.OfKind.kind c.check_kind.result (c.check_kind.ensures ∙ ap (λ k. checked k c.args.file.now) c.kind.ensures)
 
-pub returns-in_err-components : goal.returns-in_err-components
-unfolding checked
-returns-in_err-components c = search rules
-
-pub returns : goal.returns
-unfolding checked
-returns c = search rules
+pub returns-clause-one : goal.returns-clause-one
+returns-clause-one g c = one_kind c.args.file.now
