@@ -2,14 +2,13 @@
 // was worked out by another reader.
 #![tactic(auto)]
 
-use anyhow::anyhow;
-use der::refusal::Refusal;
-use model::part::Part;
-use parts::audit::{audit, audit_above};
-use parts::details::Details;
-use parts::inventory::{Inventory, first};
-use parts::key::Key;
-use report::check::check_report;
+mod line;
+
+use crate::line::Line;
+use anyhow::bail;
+use parts::audit::differences;
+use parts::inventory::Inventory;
+use parts::walk::walk;
 use report::report::Report;
 use std::{fs, io};
 
@@ -25,15 +24,13 @@ fn run(rt: &HostRuntime) -> anyhow::Result<()> {
     Ok(())
 }
 
+// A match on the word of the case: a table of functions would be no plainer.
 fn run_case(rt: &HostRuntime, line: &str) -> anyhow::Result<()> {
     let mut words = line.split(' ');
-    let (Some(kind), Some(name)) = (words.next(), words.next()) else {
-        return Err(anyhow!("a case that is not understood"));
-    };
-    match (kind, words.next()) {
-        ("report", None) => print_report(rt, name)?,
-        ("audit", Some(other)) => print_audit(rt, name, other)?,
-        _ => return Err(anyhow!("a case that is not understood")),
+    match (words.next(), words.next(), words.next()) {
+        (Some("report"), Some(name), None) => print_report(rt, name)?,
+        (Some("audit"), Some(name), Some(other)) => print_audit(rt, name, other)?,
+        _ => bail!("a case that is not understood"),
     }
     Ok(())
 }
@@ -45,19 +42,17 @@ fn read(rt: &HostRuntime, name: &str) -> io::Result<Vec<u8>> {
 
 fn print_report(rt: &HostRuntime, name: &str) -> io::Result<()> {
     let file = read(rt, name)?;
-    if let Err(refusal) = check_report(&file) {
-        return print_refusal(rt, name, refusal);
+    match Report::read(&file) {
+        Ok(report) => print_parts(rt, name, &report),
+        Err(refusal) => println!(rt; "{name}: {}", Line(&refusal)),
     }
-    let report = Report::make(&file);
+}
+
+fn print_parts(rt: &HostRuntime, name: &str, report: &Report<'_>) -> io::Result<()> {
     let count = report.count();
     println!(rt; "{name}: accepted, {count} parts")?;
-    let mut next = first(&report);
-    for _ in 0..count {
-        let Some(part) = next else {
-            break;
-        };
-        print_part(rt, &part)?;
-        next = report.next(Some(&part.key));
+    for part in walk(report) {
+        println!(rt; "  {}", Line(&part))?;
     }
     Ok(())
 }
@@ -66,65 +61,10 @@ fn print_audit(rt: &HostRuntime, a: &str, b: &str) -> io::Result<()> {
     let left = read(rt, a)?;
     let right = read(rt, b)?;
     println!(rt; "{a} {b}: differences")?;
-    if check_report(&left).is_ok() && check_report(&right).is_ok() {
-        print_differences(rt, &Report::make(&left), &Report::make(&right))?;
+    if let (Ok(left), Ok(right)) = (Report::read(&left), Report::read(&right)) {
+        for key in differences(&left, &right) {
+            println!(rt; "  {}", Line(&key))?;
+        }
     }
     println!(rt; "  end")
-}
-
-fn print_differences(rt: &HostRuntime, a: &Report<'_>, b: &Report<'_>) -> io::Result<()> {
-    let mut differing = audit(a, b);
-    for _ in 0..a.count().saturating_add(b.count()) {
-        let Some(key) = differing else {
-            break;
-        };
-        print_key(rt, &key)?;
-        println!(rt; "")?;
-        differing = audit_above(a, b, &key);
-    }
-    Ok(())
-}
-
-fn print_refusal(rt: &HostRuntime, name: &str, refusal: Refusal) -> io::Result<()> {
-    let number = refusal.reason.number();
-    let place = refusal.place;
-    println!(rt; "{name}: refused {number} at {place}")
-}
-
-fn print_part(rt: &HostRuntime, part: &Part<Key, Details>) -> io::Result<()> {
-    print_key(rt, &part.key)?;
-    print!(rt; " ")?;
-    let revision = part.details.revision.held();
-    if revision.is_empty() {
-        print!(rt; "-")?;
-    }
-    print_hex(rt, revision)?;
-    println!(rt;
-        " {}",
-        match part.details.replaceable {
-            None => "-",
-            Some(false) => "no",
-            Some(true) => "yes",
-        }
-    )
-}
-
-fn print_key(rt: &HostRuntime, key: &Key) -> io::Result<()> {
-    let fields = key.fields();
-    let registry = fields.registry;
-    print!(rt; "  {registry} ")?;
-    print_hex(rt, fields.class)?;
-    print!(rt; " ")?;
-    print_hex(rt, fields.maker)?;
-    print!(rt; " ")?;
-    print_hex(rt, fields.model)?;
-    print!(rt; " ")?;
-    print_hex(rt, fields.serial)
-}
-
-fn print_hex(rt: &HostRuntime, bytes: &[u8]) -> io::Result<()> {
-    for byte in bytes {
-        print!(rt; "{byte:02x}")?;
-    }
-    Ok(())
 }

@@ -1,166 +1,122 @@
 // The commands of the program.
 use crate::help::HELP;
+use crate::problem::{Fault, Problem};
 use crate::reports::{print_differences, print_parts};
 use crate::tree::print_tree;
-use crate::words::print_refusal;
-use der::element::{element_at, read_element};
-use der::refusal::Refusal;
-use report::check::check_report;
+use der::cursor::Cursor;
+use der::element::read_element;
 use report::report::Report;
-use std::{env, fs, io};
+use std::{env, fs};
 
-// How a command ended: everything was answered, or something was refused or not understood, and that was said.
-pub enum Outcome {
-    Done,
-    Failed,
-}
-
-pub fn run(rt: &HostRuntime) -> io::Result<Outcome> {
+pub fn run(rt: &HostRuntime) -> Result<(), Problem> {
     let args: Vec<String> = env::args(rt)?.skip(1).collect(rt.alloc())?;
-    let Some(command) = args.first() else {
-        return usage(rt, "no command is given");
-    };
-    match command.as_str() {
-        "batch" => batch(rt, &args),
-        other => answer(rt, other, &args),
+    let words: Vec<&str> = args.iter().map(String::as_str).collect(rt.alloc())?;
+    match words.as_slice() {
+        ["batch", operands @ ..] => batch(rt, operands),
+        words => answer(rt, words),
     }
 }
 
 // Runs the commands that a file has, one to a line. Their failures are part of what is printed.
-fn batch(rt: &HostRuntime, args: &[String]) -> io::Result<Outcome> {
-    let [_, path] = args else {
-        return usage(rt, "'batch' takes one file");
+fn batch(rt: &HostRuntime, operands: &[&str]) -> Result<(), Problem> {
+    let [path] = operands else {
+        return Err(Problem::Misused("'batch' takes one file"));
     };
-    let text = match fs::read_to_string(rt, path.as_str()) {
-        Ok(text) => text,
-        Err(error) => return unreadable(rt, path.as_str(), error),
-    };
+    let text = fs::read_to_string(rt, *path).try_map_err(|error| of_file(
+        rt,
+        path,
+        Fault::Unreadable(error),
+    ))?;
     for line in text.as_str().lines() {
         println!(rt; "> {line}")?;
-        let mut words = Vec::new(rt.alloc());
-        for word in line.split(' ') {
-            words.push(String::from_str(rt.alloc(), word)?)?;
-        }
-        let command = line.split(' ').next().unwrap_or("");
-        match answer(rt, command, &words)? {
-            Outcome::Done => {}
-            Outcome::Failed => println!(rt; "status 1")?,
+        let words: Vec<&str> = line.split(' ').collect(rt.alloc())?;
+        match answer(rt, &words) {
+            Ok(()) => {}
+            Err(Problem::Io(error)) => return Err(Problem::Io(error)),
+            Err(problem) => {
+                problem.print(rt)?;
+                println!(rt; "status 1")?;
+            }
         }
     }
-    Ok(Outcome::Done)
+    Ok(())
 }
 
-fn answer(rt: &HostRuntime, command: &str, args: &[String]) -> io::Result<Outcome> {
-    match command {
-        "--help" | "-h" | "help" => {
-            rt.print(HELP)?;
-            Ok(Outcome::Done)
-        }
-        "elements" => elements(rt, args),
-        "element" => element(rt, args),
-        "report" => report(rt, args),
-        "audit" => audit(rt, args),
-        other => {
-            eprintln!(rt; "rosuklam: unknown command '{other}'; try 'rosuklam --help'")?;
-            Ok(Outcome::Failed)
-        }
+// A match on the word: a table of functions would be no plainer.
+fn answer(rt: &HostRuntime, words: &[&str]) -> Result<(), Problem> {
+    let Some((command, operands)) = words.split_first() else {
+        return Err(Problem::Misused("no command is given"));
+    };
+    match *command {
+        "--help" | "-h" | "help" => Ok(rt.print(HELP)?),
+        "elements" => elements(rt, operands),
+        "element" => element(rt, operands),
+        "report" => report(rt, operands),
+        "audit" => audit(rt, operands),
+        other => Err(Problem::UnknownCommand(String::from_str(rt.alloc(), other)?)),
     }
 }
 
-fn elements(rt: &HostRuntime, args: &[String]) -> io::Result<Outcome> {
-    let [_, path] = args else {
-        return usage(rt, "'elements' takes one file");
+fn elements(rt: &HostRuntime, operands: &[&str]) -> Result<(), Problem> {
+    let [path] = operands else {
+        return Err(Problem::Misused("'elements' takes one file"));
     };
-    let file = match fs::read(rt, path.as_str()) {
-        Ok(file) => file,
-        Err(error) => return unreadable(rt, path.as_str(), error),
-    };
-    match print_tree(rt, &file)? {
-        None => Ok(Outcome::Done),
-        Some(refusal) => {
-            print_refusal(rt, refusal)?;
-            Ok(Outcome::Failed)
-        }
-    }
+    print_tree(rt, &read(rt, path)?)
 }
 
-fn element(rt: &HostRuntime, args: &[String]) -> io::Result<Outcome> {
-    let [_, path, place] = args else {
-        return usage(rt, "'element' takes a file and an offset");
+fn element(rt: &HostRuntime, operands: &[&str]) -> Result<(), Problem> {
+    let [path, place] = operands else {
+        return Err(Problem::Misused("'element' takes a file and an offset"));
     };
-    let Ok(place) = place.as_str().parse::<usize>() else {
-        return usage(rt, "the offset is no decimal number");
+    let Ok(place) = place.parse::<usize>() else {
+        return Err(Problem::Misused("the offset is no decimal number"));
     };
-    let file = match fs::read(rt, path.as_str()) {
-        Ok(file) => file,
-        Err(error) => return unreadable(rt, path.as_str(), error),
+    let file = read(rt, path)?;
+    let element = read_element(&file, place)?;
+    let mut cursor = Cursor {
+        at: place,
+        ..Cursor::new(&file)
     };
-    match (
-        read_element(&file, place),
-        element_at(&file, place, file.len()),
-    ) {
-        (Ok(element), Ok((_, from, to))) => {
-            let tag = element.tag;
-            println!(rt; "tag {tag:02X}, content {from} to {to}")?;
-            Ok(Outcome::Done)
-        }
-        (Err(refusal), _) | (_, Err(refusal)) => {
-            print_refusal(rt, refusal)?;
-            Ok(Outcome::Failed)
-        }
-    }
+    let (_, content) = cursor.element()?;
+    println!(rt;
+        "tag {:02X}, content {} to {}",
+        element.tag, content.at, content.end
+    )?;
+    Ok(())
 }
 
-fn report(rt: &HostRuntime, args: &[String]) -> io::Result<Outcome> {
-    let [_, path] = args else {
-        return usage(rt, "'report' takes one probe report");
+fn report(rt: &HostRuntime, operands: &[&str]) -> Result<(), Problem> {
+    let [path] = operands else {
+        return Err(Problem::Misused("'report' takes one probe report"));
     };
-    let file = match fs::read(rt, path.as_str()) {
-        Ok(file) => file,
-        Err(error) => return unreadable(rt, path.as_str(), error),
-    };
-    if let Err(refusal) = check_report(&file) {
-        print_refusal(rt, refusal)?;
-        return Ok(Outcome::Failed);
-    }
-    print_parts(rt, &Report::make(&file))?;
-    Ok(Outcome::Done)
+    let file = read(rt, path)?;
+    print_parts(rt, &Report::read(&file)?)?;
+    Ok(())
 }
 
-fn audit(rt: &HostRuntime, args: &[String]) -> io::Result<Outcome> {
-    let [_, first, second] = args else {
-        return usage(rt, "'audit' takes two probe reports");
+fn audit(rt: &HostRuntime, operands: &[&str]) -> Result<(), Problem> {
+    let [first, second] = operands else {
+        return Err(Problem::Misused("'audit' takes two probe reports"));
     };
-    let left = match fs::read(rt, first.as_str()) {
-        Ok(file) => file,
-        Err(error) => return unreadable(rt, first.as_str(), error),
-    };
-    let right = match fs::read(rt, second.as_str()) {
-        Ok(file) => file,
-        Err(error) => return unreadable(rt, second.as_str(), error),
-    };
-    if let Err(refusal) = check_report(&left) {
-        return refused(rt, first.as_str(), refusal);
-    }
-    if let Err(refusal) = check_report(&right) {
-        return refused(rt, second.as_str(), refusal);
-    }
-    print_differences(rt, &Report::make(&left), &Report::make(&right))?;
-    Ok(Outcome::Done)
+    let left = read(rt, first)?;
+    let right = read(rt, second)?;
+    let left = report_in(rt, first, &left)?;
+    let right = report_in(rt, second, &right)?;
+    print_differences(rt, &left, &right)?;
+    Ok(())
 }
 
-fn refused(rt: &HostRuntime, path: &str, refusal: Refusal) -> io::Result<Outcome> {
-    print!(rt; "{path}: ")?;
-    print_refusal(rt, refusal)?;
-    Ok(Outcome::Failed)
+fn read(rt: &HostRuntime, path: &str) -> Result<Vec<u8>, Problem> {
+    fs::read(rt, path).try_map_err(|error| of_file(rt, path, Fault::Unreadable(error)))
 }
 
-fn usage(rt: &HostRuntime, problem: &str) -> io::Result<Outcome> {
-    eprintln!(rt; "rosuklam: {problem}; try 'rosuklam --help'")?;
-    Ok(Outcome::Failed)
+// One of several reports, so a refusal names its path.
+fn report_in<'a>(rt: &HostRuntime, path: &str, file: &'a [u8]) -> Result<Report<'a>, Problem> {
+    Report::read(file).try_map_err(|refusal| of_file(rt, path, Fault::Refused(refusal)))
 }
 
-fn unreadable(rt: &HostRuntime, path: &str, error: io::Error) -> io::Result<Outcome> {
-    eprintln!(rt; "rosuklam: cannot read {path}: {error}")?;
-    Ok(Outcome::Failed)
+// The path is copied, for which memory may run out: that is then the problem.
+fn of_file(rt: &HostRuntime, path: &str, fault: Fault) -> Result<Problem, Problem> {
+    let path = String::from_str(rt.alloc(), path)?;
+    Ok(Problem::OfFile { path, fault })
 }

@@ -4,19 +4,21 @@
 mod commands;
 mod help;
 mod notation;
+mod problem;
 mod reports;
 mod tree;
 mod words;
 
-use crate::commands::{Outcome, run};
+use crate::commands::run;
 use std::process::ExitCode;
 
 fn main(rt: HostRuntime) -> ExitCode {
     match run(&rt) {
-        Ok(Outcome::Done) => ExitCode::SUCCESS,
-        Ok(Outcome::Failed) => ExitCode::FAILURE,
-        Err(error) => {
-            let _ = eprintln!(rt; "rosuklam: {error}");
+        Ok(()) => ExitCode::SUCCESS,
+        Err(problem) => {
+            let _ = problem
+                .print(&rt)
+                .or_else(|error| eprintln!(rt; "rosuklam: {error}"));
             ExitCode::FAILURE
         }
     }

@@ -1,73 +1,90 @@
 // How keys, details and parts are written.
 use model::part::Part;
 use parts::details::Details;
-use parts::key::Key;
-use std::alloc::{AllocError, Global};
+use parts::key::{Key, Registry};
+use std::fmt;
 
-const DIGITS: [char; 16] = [
-    '0', '1', '2', '3', '4', '5', '6', '7', '8', '9', 'A', 'B', 'C', 'D', 'E', 'F',
-];
+// A value as the program writes it.
+#[derive(Clone, Copy)]
+pub struct Notation<'a, T>(pub &'a T);
 
 // REGISTRY:CLASS:MAKER:MODEL:SERIAL
-pub fn key_text(heap: Global, key: &Key) -> Result<String, AllocError> {
-    let fields = key.fields();
-    let mut out = String::from_str(heap, registry_name(fields.registry))?;
-    out.push(':')?;
-    for byte in fields.class {
-        push_hex(&mut out, *byte)?;
+impl fmt::Display for Notation<'_, Key> {
+    fn fmt<W: fmt::Write>(&self, f: &mut fmt::Formatter<W>) -> fmt::Result {
+        let registry = match self.0.registry() {
+            Registry::Tcg => "tcg",
+            Registry::Dmtf => "dmtf",
+            Registry::Pcie => "pcie",
+            Registry::Storage => "storage",
+        };
+        let fields = self.0.fields();
+        let class = Hex(fields.class);
+        let maker = Escaped(fields.maker);
+        let model = Escaped(fields.model);
+        let serial = Escaped(fields.serial);
+        write!(f, "{registry}:{class}:{maker}:{model}:{serial}")
     }
-    out.push(':')?;
-    push_text(&mut out, fields.maker)?;
-    out.push(':')?;
-    push_text(&mut out, fields.model)?;
-    out.push(':')?;
-    push_text(&mut out, fields.serial)?;
-    Ok(out)
 }
 
 // revision=TEXT replaceable=yes|no|-
-pub fn details_text(heap: Global, details: &Details) -> Result<String, AllocError> {
-    let mut out = String::from_str(heap, "revision=")?;
-    push_text(&mut out, details.revision.held())?;
-    out.push_str(match details.replaceable {
-        None => " replaceable=-",
-        Some(true) => " replaceable=yes",
-        Some(false) => " replaceable=no",
-    })?;
-    Ok(out)
+impl fmt::Display for Notation<'_, Details> {
+    fn fmt<W: fmt::Write>(&self, f: &mut fmt::Formatter<W>) -> fmt::Result {
+        let revision = Escaped(self.0.revision.held());
+        let replaceable = match self.0.replaceable {
+            None => "-",
+            Some(true) => "yes",
+            Some(false) => "no",
+        };
+        write!(f, "revision={revision} replaceable={replaceable}")
+    }
+}
+
+// The details of what is found, or none.
+impl fmt::Display for Notation<'_, Option<Details>> {
+    fn fmt<W: fmt::Write>(&self, f: &mut fmt::Formatter<W>) -> fmt::Result {
+        match *self.0 {
+            Some(details) => write!(f, "{}", Notation(&details)),
+            None => write!(f, "none"),
+        }
+    }
 }
 
 // The key, a space, the details.
-pub fn part_text(heap: Global, part: &Part<Key, Details>) -> Result<String, AllocError> {
-    let mut out = key_text(heap, &part.key)?;
-    out.push(' ')?;
-    out.push_str(details_text(heap, &part.details)?.as_str())?;
-    Ok(out)
+impl fmt::Display for Notation<'_, Part<Key, Details>> {
+    fn fmt<W: fmt::Write>(&self, f: &mut fmt::Formatter<W>) -> fmt::Result {
+        write!(f, "{} {}", Notation(&self.0.key), Notation(&self.0.details))
+    }
 }
 
-fn registry_name(number: u8) -> &'static str {
-    match number {
-        1 => "tcg",
-        2 => "dmtf",
-        3 => "pcie",
-        _ => "storage",
+// Written here, since the kit's `hex` makes strings.
+#[derive(Clone, Copy)]
+struct Hex<'a>(&'a [u8]);
+
+impl fmt::Display for Hex<'_> {
+    fn fmt<W: fmt::Write>(&self, f: &mut fmt::Formatter<W>) -> fmt::Result {
+        for byte in self.0 {
+            write!(f, "{byte:02X}")?;
+        }
+        Ok(())
     }
 }
 
 // Letters, digits, '.', '_' and '-' as they are, any other byte as %XX.
-fn push_text(out: &mut String, bytes: &[u8]) -> Result<(), AllocError> {
-    for byte in bytes {
-        if byte.is_ascii_alphanumeric() || matches!(*byte, b'.' | b'_' | b'-') {
-            out.push(char::from(*byte))?;
-        } else {
-            out.push('%')?;
-            push_hex(out, *byte)?;
-        }
-    }
-    Ok(())
-}
+#[derive(Clone, Copy)]
+struct Escaped<'a>(&'a [u8]);
 
-fn push_hex(out: &mut String, byte: u8) -> Result<(), AllocError> {
-    out.push(DIGITS[(byte / 16) as usize])?;
-    out.push(DIGITS[(byte % 16) as usize])
+impl fmt::Display for Escaped<'_> {
+    fn fmt<W: fmt::Write>(&self, f: &mut fmt::Formatter<W>) -> fmt::Result {
+        for byte in self.0 {
+            match *byte {
+                b'0'..=b'9' | b'A'..=b'Z' | b'a'..=b'z' | b'.' | b'_' | b'-' => write!(
+                    f,
+                    "{}",
+                    char::from(*byte)
+                )?,
+                byte => write!(f, "%{byte:02X}")?,
+            }
+        }
+        Ok(())
+    }
 }
