@@ -56,7 +56,7 @@ impl fmt::Display for Notation<'_, Part<Key, Details>> {
     }
 }
 
-// Written here, since the kit's `hex` makes strings.
+// Written here: of the kit's `hex`, capital letters come only as a string of their own.
 #[derive(Clone, Copy)]
 struct Hex<'a>(&'a [u8]);
 
