@@ -4,6 +4,8 @@ ghost use Rattle.certificate.specs.Readings.{reading, nth_of};
 
 use crate::line::{Line, Lines, lines_of};
 use crate::places::Places;
+use component::list::listed;
+use component::meaning::PlacedComponent;
 use reader::kind::Kind;
 
 // The file and where its parts stand. Its parts are handed out as parts of the file, each by a call of its own: one
@@ -81,10 +83,15 @@ impl<'a> LentCertificate<'a> {
         lines_of(self.file, self.places.components.list, self.kind)
     }
 
-    // The component with a number from 0, in that order, or none.
+    // The component with a number from 0, in that order, or none. Those before it are only passed over.
     pub fn component(&self, number: usize) -> Option<Line>
         ensures { result ≡ nth_of number (reading self.now).components }
     {
-        self.components().nth(number)
+        let list = self.places.components.list;
+        let places = listed(self.file, list, self.kind).nth(number)?;
+        Some(Line::from(PlacedComponent {
+            file: self.file,
+            places,
+        }))
     }
 }

@@ -61,10 +61,18 @@ fn print_audit(rt: &HostRuntime, a: &str, b: &str) -> io::Result<()> {
     let left = read(rt, a)?;
     let right = read(rt, b)?;
     println!(rt; "{a} {b}: differences")?;
-    if let (Ok(left), Ok(right)) = (Report::read(&left), Report::read(&right)) {
-        for key in differences(&left, &right) {
-            println!(rt; "  {}", Line(&key))?;
+    // One after the other: where the first is refused, the second is not looked at.
+    if let Ok(left) = Report::read(&left) {
+        if let Ok(right) = Report::read(&right) {
+            print_differences(rt, &left, &right)?;
         }
     }
     println!(rt; "  end")
+}
+
+fn print_differences(rt: &HostRuntime, a: &Report<'_>, b: &Report<'_>) -> io::Result<()> {
+    for key in differences(a, b) {
+        println!(rt; "  {}", Line(&key))?;
+    }
+    Ok(())
 }

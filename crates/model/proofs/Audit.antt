@@ -1,13 +1,13 @@
 -- An audit walks both inventories side by side.
-use Rattle.std.proofs.Common.{◌≡◌, ◌⊎◌, List, [], ◌∷◌, Some, None, Option, Ordering, Less, Equal, sym, refl, ap, ◌∙◌, subst, inl, inr}
+use Rattle.std.proofs.Common.{◌≡◌, ◌⊎◌, List, [], ◌∷◌, Some, None, Option, Ordering, Less, Equal, Greater, sym, refl, ap, ◌∙◌, subst, inl, inr}
 use Rattle.std.proofs.lemmas.Option.{none-some}
-use Rattle.std.specs.Ordering.{ord_min}
+use Rattle.std.specs.List.{slice_get}
 use Rattle.model.specs.declared.part.Part.{Part}
 use Rattle.model.specs.Orders.{Lawful}
 use Rattle.model.specs.Parts.{Over, Rising, lookup, above, beyond, Smallest}
 use Rattle.std.specs.Iterator.{Drains}
 use Rattle.model.specs.Audits.{Auditing, Agreeing, Differing, Comparison, Comparing}
-use Rattle.model.proofs.Lists.{which, self, greater_turned, less_turned, part_path, above_smallest, extensional}
+use Rattle.model.proofs.Lists.{which, greater_turned, above_smallest, extensional}
 use Rattle.model.proofs.Walks.{over_trans, beyond_none, beyond_first}
 use Rattle.model.proofs.Lists.Which.{less, same, greater}
 
@@ -17,7 +17,7 @@ module _ {K D : Type 0} (cmp : K → K → Ordering) where
     pub same : (q : K) → Over cmp from q → (lookup cmp q l ≡ lookup cmp q m) ⊎ Over cmp now q
     pub past : (q : K) → Over cmp now q → Over cmp from q
 
-  agreed_none : (l m : List (Part K D)) (from : Option K) → Agreed l m from from
+  pub agreed_none : (l m : List (Part K D)) (from : Option K) → Agreed l m from from
   agreed_none l m from = record { same = λ q o. inr o; past = λ q o. o }
 
   -- the two the other way round
@@ -39,7 +39,7 @@ module _ {K D : Type 0} (cmp : K → K → Ordering) (laws : Lawful cmp) where
     right = above_smallest cmp laws now m um
 
     -- neither has a part above
-    audit_none : None ≡ above cmp now l → None ≡ above cmp now m → Auditing cmp l m from None
+    pub audit_none : None ≡ above cmp now l → None ≡ above cmp now m → Auditing cmp l m from None
     audit_none e f = λ q o.
         elim (g.same q o) [
           | inl s ↦ s
@@ -51,7 +51,7 @@ module _ {K D : Type 0} (cmp : K → K → Ordering) (laws : Lawful cmp) where
     between j none q o b = elim (g.same q o) [ inl s ↦ s | inr a ↦ (let n = none q a b in n.0 ∙ sym n.1) ]
 
     -- the first of l above `now` stands below all of m above `now`
-    audit_left : (p : Part K D) → Some p ≡ above cmp now l → ((q : K) → Over cmp now q → (cmp q p.key ≡ Less) ⊎ (q ≡ p.key) → lookup cmp q m ≡ None) → Auditing cmp l m from (Some p.key)
+    pub audit_left : (p : Part K D) → Some p ≡ above cmp now l → ((q : K) → Over cmp now q → (cmp q p.key ≡ Less) ⊎ (q ≡ p.key) → lookup cmp q m ≡ None) → Auditing cmp l m from (Some p.key)
     audit_left p e none =
         let s = subst (Smallest cmp (λ q. lookup cmp q l) now) (sym e) left in (
           g.past p.key s.0,
@@ -62,16 +62,16 @@ module _ {K D : Type 0} (cmp : K → K → Ordering) (laws : Lawful cmp) where
     lower : (k j q : K) → cmp k j ≡ Less → (cmp q k ≡ Less) ⊎ (q ≡ k) → cmp q j ≡ Less
     lower k j q b c = elim c [ inl d ↦ laws.trans q k j d b | inr e ↦ subst (λ (x : K). cmp x j ≡ Less) (sym e) b ]
 
-    only_left : (p : Part K D) → Some p ≡ above cmp now l → None ≡ above cmp now m → Auditing cmp l m from (Some p.key)
+    pub only_left : (p : Part K D) → Some p ≡ above cmp now l → None ≡ above cmp now m → Auditing cmp l m from (Some p.key)
     only_left p e f = audit_left p e (λ q a b. subst (Smallest cmp (λ q. lookup cmp q m) now) (sym f) right q a)
 
-    first_left : (p q : Part K D) → Some p ≡ above cmp now l → Some q ≡ above cmp now m → cmp p.key q.key ≡ Less → Auditing cmp l m from (Some p.key)
+    pub first_left : (p q : Part K D) → Some p ≡ above cmp now l → Some q ≡ above cmp now m → cmp p.key q.key ≡ Less → Auditing cmp l m from (Some p.key)
     first_left p q e f b =
         let s = subst (Smallest cmp (λ x. lookup cmp x m) now) (sym f) right in
         audit_left p e (λ x a c. s.2 x a (lower p.key q.key x b c))
 
     -- both have the same key next
-    details_differ : (p q : Part K D) → Some p ≡ above cmp now l → Some q ≡ above cmp now m → cmp p.key q.key ≡ Equal → (p.details ≡ q.details → ⊥) → Auditing cmp l m from (Some p.key)
+    pub details_differ : (p q : Part K D) → Some p ≡ above cmp now l → Some q ≡ above cmp now m → cmp p.key q.key ≡ Equal → (p.details ≡ q.details → ⊥) → Auditing cmp l m from (Some p.key)
     details_differ p q e f b d =
         let s = subst (Smallest cmp (λ x. lookup cmp x l) now) (sym e) left in
         let t = subst (Smallest cmp (λ x. lookup cmp x m) now) (sym f) right in
@@ -83,7 +83,7 @@ module _ {K D : Type 0} (cmp : K → K → Ordering) (laws : Lawful cmp) where
           between p.key (λ x a c. (s.2 x a c, t.2 x a (subst (λ (y : K). cmp x y ≡ Less) k c))),
         )
 
-    agreed_more : (p q : Part K D) → Some p ≡ above cmp now l → Some q ≡ above cmp now m → cmp p.key q.key ≡ Equal → p.details ≡ q.details → Agreed cmp l m from (Some p.key)
+    pub agreed_more : (p q : Part K D) → Some p ≡ above cmp now l → Some q ≡ above cmp now m → cmp p.key q.key ≡ Equal → p.details ≡ q.details → Agreed cmp l m from (Some p.key)
     agreed_more p q e f b d =
         let s = subst (Smallest cmp (λ x. lookup cmp x l) now) (sym e) left in
         let t = subst (Smallest cmp (λ x. lookup cmp x m) now) (sym f) right in
@@ -136,28 +136,27 @@ module _ {K D : Type 0} (cmp : K → K → Ordering) (laws : Lawful cmp) where
     pub right_alone : (q : Part K D) (u : List (Part K D)) → left ≡ [] → right ≡ q ∷ u → Auditing cmp l m from (Some q.key)
     right_alone q u e f = auditing_turned cmp m l from (Some q.key) (only_left m l from w.now um up (agreed_turned cmp w.agreed) q (right_first q u f).0 (left_end e))
 
-    -- the two parts that are shown differ: the answer is the smaller key
-    pub parts_differ : (p q : Part K D) (t u : List (Part K D)) → left ≡ p ∷ t → right ≡ q ∷ u → (p ≡ q → ⊥) → Auditing cmp l m from (Some (ord_min cmp p.key q.key))
-    parts_differ p q t u e f n =
-        let x = (left_first p t e).0 in
-        let y = (right_first q u f).0 in
-        elim (which (cmp p.key q.key)) [
-          | less o ↦ rw (less_turned cmp laws p.key q.key o) (first_left l m from w.now up um w.agreed p q x y o)
-          | same o ↦ rw (ap (cmp q.key) (laws.only p.key q.key o) ∙ self cmp laws q.key) (details_differ l m from w.now up um w.agreed p q x y o (λ d. n (part_path p q (laws.only p.key q.key o) d)))
-          | greater o ↦ rw (greater_turned cmp laws p.key q.key o) (auditing_turned cmp m l from (Some q.key) (first_left m l from w.now um up (agreed_turned cmp w.agreed) q p y x (greater_turned cmp laws p.key q.key o)))
-        ]
+    -- the two parts that are shown have keys that differ: the answer is the smaller
+    pub left_lower : (p q : Part K D) (t u : List (Part K D)) → left ≡ p ∷ t → right ≡ q ∷ u → cmp p.key q.key ≡ Less → Auditing cmp l m from (Some p.key)
+    left_lower p q t u e f o = first_left l m from w.now up um w.agreed p q (left_first p t e).0 (right_first q u f).0 o
+
+    pub right_lower : (p q : Part K D) (t u : List (Part K D)) → left ≡ p ∷ t → right ≡ q ∷ u → cmp p.key q.key ≡ Greater → Auditing cmp l m from (Some q.key)
+    right_lower p q t u e f o = auditing_turned cmp m l from (Some q.key) (first_left m l from w.now um up (agreed_turned cmp w.agreed) q p (right_first q u f).0 (left_first p t e).0 (greater_turned cmp laws p.key q.key o))
+
+    -- they have one key, and other details
+    pub details_apart : (p q : Part K D) (t u : List (Part K D)) → left ≡ p ∷ t → right ≡ q ∷ u → cmp p.key q.key ≡ Equal → (p.details ≡ q.details → ⊥) → Auditing cmp l m from (Some p.key)
+    details_apart p q t u e f o d = details_differ l m from w.now up um w.agreed p q (left_first p t e).0 (right_first q u f).0 o d
 
     -- they are the same: both walks go on
-    pub parts_agree : (p q : Part K D) (t u : List (Part K D)) → left ≡ p ∷ t → right ≡ q ∷ u → p ≡ q → Abreast l m from t u
-    parts_agree p q t u e f s =
+    pub parts_agree : (p q : Part K D) (t u : List (Part K D)) → left ≡ p ∷ t → right ≡ q ∷ u → cmp p.key q.key ≡ Equal → p.details ≡ q.details → Abreast l m from t u
+    parts_agree p q t u e f o d =
         let x = left_first p t e in
         let y = right_first q u f in
-        let k : p.key ≡ q.key = ap (λ (z : Part K D). z.key) s in
         record {
           now = Some p.key;
-          agreed = agreed_more l m from w.now up um w.agreed p q x.0 y.0 (ap (cmp p.key) (sym k) ∙ self cmp laws p.key) (ap (λ (z : Part K D). z.details) s);
+          agreed = agreed_more l m from w.now up um w.agreed p q x.0 y.0 o d;
           left_is = x.1;
-          right_is = y.1 ∙ ap (λ j. beyond cmp (Some j) m) (sym k);
+          right_is = y.1 ∙ ap (λ j. beyond cmp (Some j) m) (sym (laws.only p.key q.key o));
         }
 
   -- ---- where all keys are asked for
@@ -167,6 +166,11 @@ module _ {K D : Type 0} (cmp : K → K → Ordering) (laws : Lawful cmp) where
   agreeing l m (Some j) h g a = λ e. a.1 (ap (lookup cmp j) e)
 
   -- ---- all audits in turn
+
+  -- the first of them says whether the two have the same parts
+  pub first_agrees : (l m : List (Part K D)) (ks : List K) → Rising cmp l → Rising cmp m → Differing cmp l m None ks → Agreeing cmp l m (slice_get ks 0)
+  first_agrees l m [] h g a = agreeing l m None h g a
+  first_agrees l m (j ∷ js) h g a = agreeing l m (Some j) h g a.0
 
   pub in_turn : (s : Comparison K D) (ks : List K) → Drains (Comparing cmp) s ks → Differing cmp s.left s.right s.passed ks
   in_turn s [] d = subst (λ (t : Comparison K D). Auditing cmp t.left t.right t.passed None) (sym d.1.1) d.1.2.0

@@ -1,12 +1,12 @@
 -- The order of keys is lawful.
-use Rattle.std.proofs.Common.{◌≡◌, ◌&&◌, Bool, true, false, not, cond, ℕ, ◌<◌, List, [], ◌∷◌, ◌++◌, length, Some, Option, Ordering, Less, Equal, sym, refl, ap, ◌∙◌, subst, rules}
+use Rattle.std.proofs.Common.{◌≡◌, ◌&&◌, ℕ, ◌<◌, List, [], ◌∷◌, ◌++◌, length, Some, Option, Ordering, Less, Equal, sym, refl, ap, ◌∙◌, subst, rules}
 use native.Mathlib.Nat.{ℕ_set}
 use mathlib.Core.HLevel.{is_prop→PathP}
 use Rattle.std.specs.Bool.{Decides}
 use Rattle.std.proofs.lemmas.Bool.Decides.{Decides-and, Decides-at, Decides-like}
 use Rattle.std.specs.Cmp.{IsTotalOrder, Equal-is, nat_cmp_total, nat_cmp_is, unsigned_tied, unsigned_Decides, tied_then, tied_itself, first_so, second_so}
 use Rattle.std.specs.Cmp.Lexicographic.{texts_ties, bytes_decides}
-use Rattle.std.specs.Ordering.{is_eq, is_lt, ord_min, ordering_then, nat_cmp}
+use Rattle.std.specs.Ordering.{is_eq, ordering_then, nat_cmp}
 use Rattle.model.specs.Orders.{Lawful}
 use Rattle.model.specs.declared.part.Part.{Part}
 use Rattle.parts.specs.declared.key.Key.{Key}
@@ -104,17 +104,6 @@ part_told p q =
     (λ h i. record { key = h.0 i; details = h.1 i })
     (λ e. (ap (λ (x : Part Key Details). x.key) e, ap (λ (x : Part Key Details). x.details) e))
     (Decides-and _ _ (key_told p.key q.key) (details_decides p.details q.details))
-
-pub parts_other : (p q : Part Key Details) (r : Bool) → r ≡ not (equality.eq p.key q.key && details_equal p.details q.details) → (r ≡ true → (p ≡ q → ⊥)) × (r ≡ false → p ≡ q)
-parts_other p q r e = by _ e (part_told p q)
-  where
-    by : (b : Bool) → r ≡ not b → Decides b (p ≡ q) → (r ≡ true → (p ≡ q → ⊥)) × (r ≡ false → p ≡ q)
-    by true f d = (λ t. cc, λ _. d.0 refl)
-    by false f d = (λ _ same. cc (d.1 same), λ t. cc)
-
--- the smaller of two keys
-pub smaller : (k j : Key) → ord_min ghosts.cmp k j ≡ ord_min order k j
-smaller k j = ap (λ (o : Ordering). cond (is_lt o) j k) (compared j k)
 
 -- ---- in the rule's words
 

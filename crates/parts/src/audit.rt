@@ -1,5 +1,5 @@
 // Two inventories compared.
-ghost use Rattle.std.specs.Prelude.{◌≡◌, List, Some, None};
+ghost use Rattle.std.specs.Prelude.{◌≡◌, List, Some, None, slice_get};
 ghost use Rattle.std.specs.Iterator.{Drains, at_most};
 ghost use Rattle.model.specs.Audits.{Auditing, Agreeing, Differing, Comparison, compared, Comparing, most_answers};
 ghost use Rattle.parts.specs.declared.key.Key.{Key};
@@ -9,6 +9,7 @@ ghost use Rattle.parts.specs.Keys.{order};
 use crate::inventory::Inventory;
 use crate::key::Key;
 use crate::walk::walk_above;
+use std::cmp::Ordering;
 use std::marker::Model;
 
 // Two inventories, and the key last answered: the differences above it are still to be answered.
@@ -58,16 +59,19 @@ pub fn audit_above<A: Inventory, B: Inventory>(a: &A, b: &B, above: &Key) -> Opt
     audit_from(a, b, Some(*above))
 }
 
-// All keys whose answers to find differ, rising: each is what an audit above the one before answers.
+// All keys whose answers to find differ, rising: each is what an audit above the one before answers. There is none
+// exactly where the two have the same parts.
 pub fn differences<'a, A: Inventory, B: Inventory>(a: &'a A, b: &'a B) -> Audits<'a, A, B>
     requires { (A.Inventory.bounded a.now) × (B.Inventory.bounded b.now) }
     ensures begun { result ≡ compared (A.Inventory.parts a.now) (B.Inventory.parts b.now) None }
     ensures listed { (keys : List Key) → Drains (Comparing order) result keys → Differing order (A.Inventory.parts a.now) (B.Inventory.parts b.now) None keys }
+    ensures agrees { (keys : List Key) → Drains (Comparing order) result keys → Agreeing order (A.Inventory.parts a.now) (B.Inventory.parts b.now) (slice_get keys 0) }
 {
     Audits { a, b, passed: None }
 }
 
-// Walks both side by side from a key on, as long as they show the same. No `zip`, which ends where the shorter does.
+// Walks both side by side from a key on, as long as they show the same. No `zip`, which ends where the shorter does. Keys
+// are compared once: `!=` and then `min` would do it twice.
 fn audit_from<A: Inventory, B: Inventory>(a: &A, b: &B, from: Option<Key>) -> Option<Key>
     requires { (A.Inventory.bounded a.now) × (B.Inventory.bounded b.now) }
     ensures { Auditing order (A.Inventory.parts a.now) (B.Inventory.parts b.now) from result }
@@ -79,11 +83,15 @@ fn audit_from<A: Inventory, B: Inventory>(a: &A, b: &B, from: Option<Key>) -> Op
             (None, None) => return None,
             (Some(p), None) => return Some(p.key),
             (None, Some(q)) => return Some(q.key),
-            (Some(p), Some(q)) => {
-                if p != q {
-                    return Some(p.key.min(q.key));
+            (Some(p), Some(q)) => match p.key.compare(&q.key) {
+                Ordering::Less => return Some(p.key),
+                Ordering::Greater => return Some(q.key),
+                Ordering::Equal => {
+                    if !p.details.same(&q.details) {
+                        return Some(p.key);
+                    }
                 }
-            }
+            },
         }
     }
 }

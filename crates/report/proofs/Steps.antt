@@ -8,8 +8,7 @@ use Rattle.der.specs.Refusals.{refused, then}
 use Rattle.der.specs.declared.refusal.Refusal.{Refusal}
 use Rattle.der.specs.declared.refusal.Reason.{Reason}
 use Rattle.der.specs.declared.refusal.Reason.TheVariants.{Repeated}
-use Rattle.parts.specs.declared.key.LentKey.{LentKey}
-use Rattle.parts.specs.Keys.{registry_of, lent_fields, in_turn}
+use Rattle.parts.specs.Keys.{Fields, registry_of, in_turn}
 use Rattle.report.specs.Layout.{key_place, details_place, fields_at}
 use Rattle.report.specs.WellFormed.{Text, KeyGood}
 use Rattle.report.specs.Checks.{text_field_at, key_at, rises_at, keys_from, details_at, details_from}
@@ -90,6 +89,6 @@ pub rises_first : (file : List ℕ) (i : ℕ) → i ≤ 0 → rises_at file i �
 rises_first file i h = rw (eq-eqb i 0 (omega arith)) refl
 
 -- whether a key rises, told by the key before it, if there is one
-pub rises_told : (file : List ℕ) (i : ℕ) (before : Option LentKey) (key : LentKey) (r : Bool) → MatchOption before (i ≡ 0) (λ k. (0 < i) × (lent_fields k ≡ fields_at file (key_place (i - 1)))) → lent_fields key ≡ fields_at file (key_place i) → r ≡ option_map_or (λ k. is_lt (in_turn (lent_fields k) (lent_fields key))) before true → rises_at file i ≡ r
-rises_told file i None key r first here e = rises_first file i (omega arith) ∙ sym e
-rises_told file i (Some k) key r there here e = rises_from file i r there.0 (e ∙ (λ j. is_lt (in_turn (there.1 j) (here j))))
+pub rises_told : {K : Type 0} (fields : K → Fields) (file : List ℕ) (i : ℕ) (before : Option K) (key : K) (r : Bool) → MatchOption before (i ≡ 0) (λ k. (0 < i) × (fields k ≡ fields_at file (key_place (i - 1)))) → fields key ≡ fields_at file (key_place i) → r ≡ option_map_or (λ k. is_lt (in_turn (fields k) (fields key))) before true → rises_at file i ≡ r
+rises_told fields file i None key r first here e = rises_first file i (omega arith) ∙ sym e
+rises_told fields file i (Some k) key r there here e = rises_from file i r there.0 (e ∙ (λ j. is_lt (in_turn (there.1 j) (here j))))

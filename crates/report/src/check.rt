@@ -3,14 +3,15 @@ ghost use Rattle.std.specs.Prelude.{◌≡◌, true, Ok, Err};
 ghost use Rattle.std.specs.Option.{option_map_or};
 ghost use Rattle.std.specs.Ordering.{is_lt};
 ghost use Rattle.std.specs.Result.{MatchResult};
-ghost use Rattle.parts.specs.Keys.{lent_fields, in_turn};
+ghost use Rattle.parts.specs.Keys.{in_turn};
+ghost use Rattle.report.specs.Layout.{fields_at};
 ghost use Rattle.report.specs.Format.{Told};
 ghost use Rattle.report.specs.Checks.{keys_from, details_from, sizes_of, checked};
 
+use crate::fields::CheckedKey;
 use crate::layout::{DETAILS_SIZE, KEY_SIZE, MOST_REPORTED, SIZES, two_at};
 use crate::tables::Tables;
 use der::refusal::{Reason, Refusal};
-use parts::key::LentKey;
 
 // Whether the bytes are a probe report.
 pub fn check_report(file: &[u8]) -> Result<(), Refusal>
@@ -62,14 +63,14 @@ fn check_sizes(file: &[u8]) -> Result<Tables<'_>, Refusal>
 }
 
 // The fields of each key, and that it is above the one before. A loop, since a chain would keep that one as a state of
-// its closure, which is no plainer.
+// its closure, which is no plainer. What is kept is where it stands: its fields are looked at only as far as needed.
 fn check_keys(tables: &Tables<'_>) -> Result<(), Refusal>
     ensures { result ≡ keys_from tables.now.file.now 0 tables.now.count }
 {
-    let mut before: Option<LentKey<'_>> = None;
+    let mut before: Option<CheckedKey<'_>> = None;
     for i in 0..tables.count {
         let record = tables.key(i);
-        let key = record.check()?.lent();
+        let key = record.check()?;
         if !rises(before, key) {
             return Err(Reason::Repeated.at(record.at));
         }
@@ -79,12 +80,12 @@ fn check_keys(tables: &Tables<'_>) -> Result<(), Refusal>
 }
 
 // Whether a key is above the one before, if there is one.
-fn rises(before: Option<LentKey<'_>>, key: LentKey<'_>) -> bool
-    ensures { result ≡ option_map_or (λ k. is_lt (in_turn (lent_fields k) (lent_fields key.entry))) before.entry true }
+fn rises(before: Option<CheckedKey<'_>>, key: CheckedKey<'_>) -> bool
+    ensures { result ≡ option_map_or (λ k. is_lt (in_turn (fields_at k.found.file.now k.found.at) (fields_at key.entry.found.file.now key.entry.found.at))) before.entry true }
 {
     match before {
         None => true,
-        Some(last) => last.compare_lent(key).is_lt(),
+        Some(last) => last.lent().compare_lent(key.lent()).is_lt(),
     }
 }
 

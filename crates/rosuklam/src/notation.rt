@@ -63,10 +63,20 @@ struct Hex<'a>(&'a [u8]);
 impl fmt::Display for Hex<'_> {
     fn fmt<W: fmt::Write>(&self, f: &mut fmt::Formatter<W>) -> fmt::Result {
         for byte in self.0 {
-            write!(f, "{byte:02X}")?;
+            write_hex(f, *byte)?;
         }
         Ok(())
     }
+}
+
+const DIGITS: [&str; 16] = [
+    "0", "1", "2", "3", "4", "5", "6", "7", "8", "9", "A", "B", "C", "D", "E", "F",
+];
+
+// A byte's two digits. By a table: the format `{:02X}` takes twice as long, and texts may be nothing but such bytes.
+fn write_hex<W: fmt::Write>(f: &mut fmt::Formatter<W>, byte: u8) -> fmt::Result {
+    f.write_str(DIGITS[usize::from(byte / 16)])?;
+    f.write_str(DIGITS[usize::from(byte % 16)])
 }
 
 // Letters, digits, '.', '_' and '-' as they are, any other byte as %XX.
@@ -82,7 +92,10 @@ impl fmt::Display for Escaped<'_> {
                     "{}",
                     char::from(*byte)
                 )?,
-                byte => write!(f, "%{byte:02X}")?,
+                byte => {
+                    f.write_str("%")?;
+                    write_hex(f, byte)?;
+                }
             }
         }
         Ok(())
